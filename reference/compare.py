@@ -22,6 +22,8 @@ from typing import NamedTuple
 
 import detzorb
 import keys
+import message_scripts
+import messages
 import script
 import scripts
 
@@ -153,14 +155,13 @@ def _compare(text: bytes, run: Run) -> None:
         raise Failure("\n".join(wrong) + _said(run))
 
 
-def check_vectors(program: Answering) -> str:
-    """The vectors of the standards."""
-    asked = scripts.vectors()
+def _check_known(program: Answering, asked: list[scripts.Vector], source: str) -> str:
+    """Checks the answers to lines of which the source says what is to be answered."""
     text = b"".join(vector.line + b"\n" for vector in asked)
     run = program.run(text)
     wrong = scripts.check_vectors(asked, run.output)
     if len(wrong) > _MOST_SHOWN:
-        wrong[_MOST_SHOWN:] = [f"and {len(wrong) - _MOST_SHOWN} more not as in the standards"]
+        wrong[_MOST_SHOWN:] = [f"and {len(wrong) - _MOST_SHOWN} more not as in {source}"]
     if run.status != 0:
         wrong.append(f"the status is {run.status}, not 0")
     try:
@@ -169,7 +170,17 @@ def check_vectors(program: Answering) -> str:
         wrong.append(str(failure))
     if wrong:
         raise Failure("\n".join(wrong))
-    return f"{len(asked)} lines, {len(asked)} answers as in the standards{verdict}"
+    return f"{len(asked)} lines, {len(asked)} answers as in {source}{verdict}"
+
+
+def check_vectors(program: Answering) -> str:
+    """The vectors of the standards."""
+    return _check_known(program, scripts.vectors(), "the standards")
+
+
+def check_known_messages(program: Answering) -> str:
+    """Names and messages, with the answers that the documents give them."""
+    return _check_known(program, message_scripts.known_answers(), "the documents")
 
 
 def check_random(program: Answering) -> str:
@@ -261,6 +272,67 @@ def check_edges(program: Answering) -> str:
             )
         program.compared(edge.script, run)
     return f"{len(asked)} scripts, all as the document says"
+
+
+_KINDS_OF_MESSAGES = {
+    "request": rb"AUTHENTICATION REQUEST, [0-9]+ bytes",
+    "success": rb"AUTHENTICATION RESULT \(success\), [0-9]+ bytes",
+    "failure": rb"AUTHENTICATION RESULT \(failure\), [0-9]+ bytes",
+    "reject": rb"AUTHENTICATION REJECT, [0-9]+ bytes",
+    "refused 6:": rb"refused: number 6, layer 2 .*",
+    "7:": rb"refused: number 7, layer 2 .*",
+    "8:": rb"refused: number 8, layer 2 .*",
+    "9:": rb"refused: number 9, layer 2 .*",
+    "10:": rb"refused: number 10, layer 3 .*",
+    "11:": rb"refused: number 11, layer 3 .*",
+    "12 at 3:": rb"refused: number 12, layer 2 \(message\), place 3: .*",
+    "12 elsewhere:": rb"refused: number 12, layer 2 \(message\), place (?!3:).*",
+}
+
+_KINDS_OF_NAMES = {
+    "public": rb"serving network name of a public network",
+    "private": rb"serving network name of a private network",
+    "refused": rb"refused: number 2, layer 1 .*",
+}
+
+
+def _check_kinds(
+    program: Answering, lines: list[bytes], kinds: dict[str, bytes], fewest: int
+) -> str:
+    """Checks lines that can be read, the answer to each of which begins with one line of a kind.
+
+    Fails where a kind occurs fewer times than the fewest.
+    """
+    text = b"".join(lines)
+    run = program.run(text)
+    verdict = program.compared(text, run)
+    counts = Counter(
+        kind
+        for line in run.output.split(b"\n")
+        for kind, pattern in kinds.items()
+        if re.fullmatch(pattern, line)
+    )
+    told = ", ".join(f"{kind} {counts[kind]}" for kind in kinds)
+    if counts.total() != len(lines) or min(counts[kind] for kind in kinds) < fewest:
+        raise Failure(
+            f"{counts.total()} answers to {len(lines)} lines, not all of the kinds "
+            f"at least {fewest} times: {told}{_said(run)}"
+        )
+    if run.status != 0:
+        raise Failure(f"the status is {run.status}, not 0{_said(run)}")
+    return f"{len(lines)} lines{verdict} ({told})"
+
+
+def check_messages(program: Answering) -> str:
+    """Random messages, many of them damaged."""
+    lines = message_scripts.random_messages(_SEED)
+    return _check_kinds(program, lines, _KINDS_OF_MESSAGES, fewest=50)
+
+
+def check_names(program: Answering) -> str:
+    """Random network names, many of them damaged."""
+    lines = message_scripts.random_names(_SEED)
+    return _check_kinds(program, lines, _KINDS_OF_NAMES, fewest=20)
 
 
 class Example(NamedTuple):
@@ -369,6 +441,33 @@ def check_hmac() -> str:
     return f"{len(lengths)} keys of different lengths, equal to the library's"
 
 
+def check_responses() -> str:
+    """What the second program writes, against bytes that follow from the document."""
+    written = {
+        "identity": (messages.identity_response(9, b"suci"), "02 09 0009 01 73756369"),
+        "no identity": (messages.identity_response(0, b""), "02 00 0005 01"),
+        "long identity": (messages.identity_response(1, b"0" * 251), "02 01 0100 01" + "30" * 251),
+        "notification": (messages.notification_response(255), "02 ff 0005 02"),
+        "Nak": (messages.nak_response(7, 50), "02 07 0006 03 32"),
+        "response": (
+            messages.authentication_response(messages.nak_response(7, 253)),
+            "7e 00 57 78 0006 02 07 0006 03 fd",
+        ),
+    }
+    for what, (given, wanted) in written.items():
+        if given != bytes.fromhex(wanted):
+            raise Failure(f"{what}: {given.hex(' ')} is not {wanted}")
+    response = messages.authentication_response(messages.notification_response(3))
+    for room in range(len(response) + 3):
+        before = bytes(range(100, 100 + room))
+        buffer = bytearray(before)
+        fits = messages.put_in_front(buffer, response)
+        wanted_bytes = response + before[len(response) :] if room >= len(response) else before
+        if buffer != wanted_bytes or fits != (room >= len(response)):
+            raise Failure(f"a response in a buffer of {room} bytes: {fits}, {buffer.hex(' ')}")
+    return f"{len(written)} as the document says, and one in buffers of every length"
+
+
 def _holds(name: str, check: Callable[[], str]) -> bool:
     """Makes a check, prints how it went, and tells whether it held."""
     try:
@@ -386,6 +485,9 @@ _CHECKS: dict[str, Callable[[Answering], str]] = {
     "mistakes": check_mistakes,
     "edges": check_edges,
     "examples": check_examples,
+    "known messages": check_known_messages,
+    "messages": check_messages,
+    "names": check_names,
 }
 
 
@@ -400,6 +502,7 @@ def check_second_program() -> bool:
     process = Program(sys.executable, str(Path(__file__).with_name("detzorb.py")))
     held = [
         _holds("hmac", check_hmac),
+        _holds("responses", check_responses),
         _all_hold(SecondProgram()),
         _holds("arguments", partial(check_arguments, process)),
         _holds("as a process", partial(check_edges, process)),

@@ -8,6 +8,7 @@ from collections.abc import Iterable
 from typing import BinaryIO
 
 import keys
+import messages
 from script import Command, Commands, answers, table
 
 _USAGE = """\
@@ -30,7 +31,7 @@ def all_commands() -> Commands:
 
     It is made anew for each script, so that a command may keep what an earlier line told it.
     """
-    commands: list[Command] = [*keys.commands()]
+    commands: list[Command] = [*keys.commands(), *messages.commands()]
 
     def answer_help() -> list[str]:
         return [line for command in commands for line in command.explanation] + [_NOTATION]

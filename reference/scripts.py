@@ -22,7 +22,7 @@ _LONGEST_PARAMETER = 65_535
 
 @dataclass(frozen=True)
 class Vector:
-    """A script line and what the standards say of its answer.
+    """A script line and what its source, a standard or a document, says of its answer.
 
     The answer has as many lines as `answer`; each is a pattern for the whole of a line.
     """
@@ -32,7 +32,8 @@ class Vector:
     answer: tuple[re.Pattern[bytes], ...]
 
 
-def _exactly(line: str) -> re.Pattern[bytes]:
+def exactly(line: str) -> re.Pattern[bytes]:
+    """The pattern of this line and no other."""
     return re.compile(re.escape(line.encode()))
 
 
@@ -50,7 +51,7 @@ def _sha256_vector(place: int, vector: dict[str, Any]) -> Vector:
     return Vector(
         f"FIPS 180-4, {place}",
         b"sha256 " + _hex_word(message.encode()),
-        (_exactly(f"sha256 = {vector['sha256']}"),),
+        (exactly(f"sha256 = {vector['sha256']}"),),
     )
 
 
@@ -78,20 +79,20 @@ def _derive_vector(place: int, vector: dict[str, Any]) -> Vector:
         f"RFC 5448, case {place}",
         b"derive " + " ".join(f"{name}={value}" for name, value in fields.items()).encode(),
         (
-            _exactly("CK' || IK' = KDF(CK || IK, 20, SNN, AUTN[0..5])"),
-            _exactly(f"  CK'    = {vector['ckp']}"),
-            _exactly(f"  IK'    = {vector['ikp']}"),
-            _exactly("MK = PRF'(IK' || CK', \"EAP-AKA'\" || SUPI)"),
-            _exactly(f"  K_encr = {vector['k_encr']}"),
-            _exactly(f"  K_aut  = {vector['k_aut']}"),
-            _exactly(f"  K_re   = {vector['k_re']}"),
-            _exactly(f"  MSK    = {vector['msk']}"),
-            _exactly(f"  EMSK   = {vector['emsk']}"),
-            _exactly("KAUSF = first 32 bytes of EMSK"),
-            _exactly(f"  KAUSF  = {vector['emsk'][:64]}"),
-            _exactly("KSEAF = KDF(KAUSF, 6C, SNN)"),
+            exactly("CK' || IK' = KDF(CK || IK, 20, SNN, AUTN[0..5])"),
+            exactly(f"  CK'    = {vector['ckp']}"),
+            exactly(f"  IK'    = {vector['ikp']}"),
+            exactly("MK = PRF'(IK' || CK', \"EAP-AKA'\" || SUPI)"),
+            exactly(f"  K_encr = {vector['k_encr']}"),
+            exactly(f"  K_aut  = {vector['k_aut']}"),
+            exactly(f"  K_re   = {vector['k_re']}"),
+            exactly(f"  MSK    = {vector['msk']}"),
+            exactly(f"  EMSK   = {vector['emsk']}"),
+            exactly("KAUSF = first 32 bytes of EMSK"),
+            exactly(f"  KAUSF  = {vector['emsk'][:64]}"),
+            exactly("KSEAF = KDF(KAUSF, 6C, SNN)"),
             _beginning("  KSEAF  = ", 64),
-            _exactly("KAMF = KDF(KSEAF, 6D, SUPI, ABBA)"),
+            exactly("KAMF = KDF(KSEAF, 6D, SUPI, ABBA)"),
             _beginning("  KAMF   = ", 64),
         ),
     )
@@ -113,7 +114,7 @@ def vectors() -> list[Vector]:
 
 
 def check_vectors(asked: Iterable[Vector], output: bytes) -> list[str]:
-    """What in the answers to the vectors' lines is not as the standards say."""
+    """What in the answers to the vectors' lines is not as their sources say."""
     lines = output.split(b"\n")[:-1]
     wrong: list[str] = []
     start = 0
@@ -127,7 +128,8 @@ def check_vectors(asked: Iterable[Vector], output: bytes) -> list[str]:
             continue
         for line, pattern in zip(given, vector.answer):
             if not pattern.fullmatch(line):
-                wrong.append(f"{vector.source}: {line[:200]!r} is not {pattern.pattern[:200]!r}")
+                wanted = re.sub(rb"\\(.)", rb"\1", pattern.pattern)  # without its escapes
+                wrong.append(f"{vector.source}: {line[:200]!r} is not {wanted[:200]!r}")
                 break
     if len(lines) > start:
         wrong.append(f"{len(lines) - start} lines more than the vectors ask for")
@@ -189,7 +191,7 @@ def _parameter_length(rng: random.Random) -> int:
     return rng.choice((0, 1, rng.randint(2, 40), near, near, rng.randint(261, 600)))
 
 
-def _line(rng: random.Random, command: bytes, words: list[bytes]) -> bytes:
+def line_of(rng: random.Random, command: bytes, words: list[bytes]) -> bytes:
     """A line of these words in a random order, sometimes with a comment; it has no line end."""
     rng.shuffle(words)
     line = rng.choice((b"", b"", b"", b" ", b"\t", b"\r")) + command
@@ -202,7 +204,8 @@ def _line(rng: random.Random, command: bytes, words: list[bytes]) -> bytes:
     return line
 
 
-def _plain_hex(rng: random.Random, message: bytes) -> bytes:
+def plain_hex(rng: random.Random, message: bytes) -> bytes:
+    """The bytes as HEX that is a plain word."""
     return _digits(rng, message) or b"-"
 
 
@@ -242,14 +245,14 @@ def random_lines(seed: int, count: int = 2000) -> list[RandomLine]:
             blank = rng.choice((b"", b" ", b"\t\r", b"\r"))
             lines.append(RandomLine(None, blank + rng.choice((b"", *_COMMENTS)) + b"\n"))
         if command == "sha256":
-            words = [_plain_hex(rng, rng.randbytes(next(messages)))]
+            words = [plain_hex(rng, rng.randbytes(next(messages)))]
         elif command == "hmac":
             key = _digits(rng, rng.randbytes(next(keys)))
-            words = [b"key=" + key, _plain_hex(rng, rng.randbytes(_near_blocks(rng)))]
+            words = [b"key=" + key, plain_hex(rng, rng.randbytes(_near_blocks(rng)))]
         else:
             words = _derive_words(rng, derived)
             derived += 1
-        line = _line(rng, command.encode(), words) + rng.choice((b"\n", b"\n", b"\r\n"))
+        line = line_of(rng, command.encode(), words) + rng.choice((b"\n", b"\n", b"\r\n"))
         lines.append(RandomLine(command, line))
     return lines
 
@@ -264,6 +267,8 @@ _GOOD_FIELDS = {
     "supi": b"0555444333222111",
     "abba": b"0000",
 }
+_NAME = b"5G:mnc015.mcc234.3gppnetwork.org"
+_MESSAGE = bytes.fromhex("7e0056010200007800080109000801616263")
 
 
 def _derive(*more: bytes, **changed: bytes | None) -> bytes:
@@ -321,6 +326,15 @@ def _unknown_fields() -> Iterator[Mistake]:
     yield Mistake(b"help command=sha256", "help has no field 'command'")
     yield Mistake(_derive(rand=b"00" * 16), "derive has no field 'rand'")
     yield Mistake(_derive(b"key="), "derive has no field 'key'")
+    yield Mistake(b"snn name=x", "snn has no field 'name'")
+    yield Mistake(b"snn snn=x", "snn has no field 'snn'")
+    yield Mistake(b"snn " + _NAME + b"=", f"snn has no field '{_NAME.decode()}'")
+    yield Mistake(b"snn " + _NAME + b" x=", "snn has no field 'x'")
+    yield Mistake(b"snn 5G:mnc=15", "snn has no field '5G:mnc'")
+    yield Mistake(b"decode message=7e0058", "decode has no field 'message'")
+    yield Mistake(b"decode 7e0058 abba=0000", "decode has no field 'abba'")
+    yield Mistake(b"decode 7e0058=", "decode has no field '7e0058'")
+    yield Mistake(b"decode key=0 key=0", "decode has no field 'key'")
     yield Mistake(b"derive ck =00 ck=1", "unexpected word 'ck'")
     yield Mistake(b"sha256 \xe9=1", r"sha256 has no field '\xe9'")
     yield Mistake(b"sha256 '=1", "sha256 has no field '''")
@@ -333,6 +347,8 @@ def _unknown_fields() -> Iterator[Mistake]:
     yield Mistake(b"sha256 61 62 key=00", "unexpected word '62'")
     yield Mistake(b"sha256 61 key=00 62", "sha256 has no field 'key'")
     yield Mistake(b"sha256 zz key=00", "sha256 has no field 'key'")
+    yield Mistake(b"decode 7 key=00", "decode has no field 'key'")
+    yield Mistake(b"decode 7e 00 key=00", "unexpected word '00'")
     yield Mistake(b"hmac kex=1", "hmac has no field 'kex'")
 
 
@@ -367,6 +383,14 @@ def _unexpected_words() -> Iterator[Mistake]:
     yield Mistake(b"help =", "unexpected word '='")
     yield Mistake(b"help \xff\x01", r"unexpected word '\xff\x01'")
     yield Mistake(b"derive 00", "unexpected word '00'")
+    yield Mistake(b"snn a b", "unexpected word 'b'")
+    yield Mistake(b"snn - -", "unexpected word '-'")
+    yield Mistake(b"snn = =", "unexpected word '='")
+    yield Mistake(b"snn " + _NAME + b" " + _NAME, f"unexpected word '{_NAME.decode()}'")
+    yield Mistake(b"decode 7e0058 7e0058", "unexpected word '7e0058'")
+    yield Mistake(b"decode 7e 00 58", "unexpected word '00'")
+    yield Mistake(b"decode - -", "unexpected word '-'")
+    yield Mistake(b"decode 7e005 x", "unexpected word 'x'")
     yield Mistake(_derive(b"-"), "unexpected word '-'")
     yield Mistake(_derive(b"=", ck=b"zz"), "unexpected word '='")
     for length in (39, 40, 41, 65_536):
@@ -387,6 +411,11 @@ def _missing_values() -> Iterator[Mistake]:
     yield Mistake(b"hmac key=", "message is missing")
     yield Mistake(b"hmac key=00 #61", "message is missing")
     yield Mistake(b"hmac #key=00 61", "key is missing")
+    yield Mistake(b"snn", "name is missing")
+    yield Mistake(b"snn #" + _NAME, "name is missing")
+    yield Mistake(b"\tsnn\r", "name is missing")
+    yield Mistake(b"decode", "message is missing")
+    yield Mistake(b"decode # 7e0058", "message is missing")
     yield Mistake(b"derive", "ck is missing")
     for name in _GOOD_FIELDS:
         yield Mistake(_derive(**{name: None}), f"{name} is missing")
@@ -419,6 +448,14 @@ def _wrong_digits() -> Iterator[Mistake]:
     yield Mistake(
         b"sha256 " + b"0" * 100_000 + b"g", "message has no hexadecimal digit at place 100001"
     )
+    yield Mistake(b"decode 7g0058", "message has no hexadecimal digit at place 2")
+    yield Mistake(b"decode 7e005g", "message has no hexadecimal digit at place 6")
+    yield Mistake(b"decode 7e0x5", "message has no hexadecimal digit at place 4")
+    yield Mistake(b"decode =7e0058", "message has no hexadecimal digit at place 1")
+    yield Mistake(b"decode --", "message has no hexadecimal digit at place 1")
+    yield Mistake(
+        b"decode " + b"7e" * 3000 + b"-", "message has no hexadecimal digit at place 6001"
+    )
     yield Mistake(b"hmac key=- 61", "key has no hexadecimal digit at place 1")
     yield Mistake(b"hmac key=0g 6g", "key has no hexadecimal digit at place 2")
     yield Mistake(b"hmac 6g key=0g", "key has no hexadecimal digit at place 2")
@@ -443,6 +480,9 @@ def _odd_digits() -> Iterator[Mistake]:
     yield Mistake(b"sha256 6", "message has an odd number of digits")
     yield Mistake(b"sha256 616", "message has an odd number of digits")
     yield Mistake(b"sha256 " + b"F" * 129, "message has an odd number of digits")
+    yield Mistake(b"decode 7", "message has an odd number of digits")
+    yield Mistake(b"decode 7e005", "message has an odd number of digits")
+    yield Mistake(b"decode " + b"8" * 4097, "message has an odd number of digits")
     yield Mistake(b"hmac key=0 61", "key has an odd number of digits")
     yield Mistake(b"hmac key=0 6", "key has an odd number of digits")
     yield Mistake(b"hmac key=0", "key has an odd number of digits")
@@ -492,6 +532,15 @@ _NO_MISTAKES = (
     b"hmac key= -",
     b"hmac - key=",
     b"hmac 61 key=00 #key=00",
+    b"snn -",
+    b"snn =",
+    b"snn =a=b # c",
+    b"snn x#",
+    b"snn \x00\x0b\xff'\\",
+    b"snn " + _NAME,
+    b"decode -",
+    b"decode 7E0058 # 7E0058",
+    b"\tdecode\r7e00588a8B\r",
     b"help",
     b" help # me",
     _derive(snn=b"", supi=b"", abba=b""),
@@ -577,12 +626,16 @@ _DAMAGES = (
 def _damaged_lines(rng: random.Random, count: int) -> Iterator[bytes]:
     """Lines that could be read before up to three things were changed on each. Some still can."""
     for _ in range(count):
-        kind = rng.randrange(3)
+        kind = rng.randrange(5)
         if kind == 0:
-            line = b"sha256 " + _plain_hex(rng, rng.randbytes(rng.randrange(40)))
+            line = b"sha256 " + plain_hex(rng, rng.randbytes(rng.randrange(40)))
         elif kind == 1:
             key, message = rng.randbytes(rng.randrange(40)), rng.randbytes(rng.randrange(40))
-            line = b"hmac key=" + _digits(rng, key) + b" " + _plain_hex(rng, message)
+            line = b"hmac key=" + _digits(rng, key) + b" " + plain_hex(rng, message)
+        elif kind == 2:
+            line = b"snn " + rng.choice((_NAME, _NAME + b":123456ABCDE"))
+        elif kind == 3:
+            line = b"decode " + plain_hex(rng, _MESSAGE)
         else:
             line = _derive()
         for _ in range(rng.choice((1, 1, 2, 3))):
@@ -591,7 +644,7 @@ def _damaged_lines(rng: random.Random, count: int) -> Iterator[bytes]:
         yield line
 
 
-def mistakes(seed: int = 1, damaged: int = 600) -> bytes:
+def mistakes(seed: int = 1, damaged: int = 1000) -> bytes:
     """A script of lines that cannot be read and a few that can; the last has no line feed."""
     rng = random.Random(seed)
     lines = [mistake.line for mistake in written_mistakes()]

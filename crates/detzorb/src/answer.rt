@@ -1,9 +1,12 @@
 // What the program answers to a line that it can read.
 use crate::hex::Hex;
 use crate::hex::HexDisplay;
+use crate::message::show_message;
+use crate::message::show_network;
 use keys::AkaKeys;
 use keys::KeyChain;
 use keys::PrimeKeys;
+use nas::NetworkKind;
 use std::fmt;
 
 // Every key of a log-on.
@@ -14,11 +17,14 @@ pub(crate) struct LogOnKeys {
     pub(crate) chain: KeyChain,
 }
 
-#[derive(Clone, Copy)]
+#[derive(Drop)]
 pub(crate) enum Answer {
     Digest([u8; 32]),
     Mac([u8; 32]),
     Keys(LogOnKeys),
+    Network(Option<NetworkKind>),
+    // The message's bytes.
+    Message(Vec<u8>),
     Help,
 }
 
@@ -26,6 +32,8 @@ pub(crate) const HELP: &str = "sha256 HEX                   the SHA-256 digest o
 hmac key=HEX HEX             the HMAC-SHA-256 of the bytes under the key
 derive ck=HEX ik=HEX autn=HEX snn=TEXT supi=TEXT abba=HEX
                              every key of a log-on, from CK and IK to KAMF
+snn TEXT                     whether a text is a serving network name, and of which kind
+decode HEX                   what a message of the network says, or why it is refused
 help                         this list
 HEX: two hexadecimal digits to a byte, - for no bytes. TEXT: a word. # starts a comment.";
 
@@ -79,6 +87,8 @@ pub(crate) impl fmt::Display for Answer as AnswerDisplay {
                 show_aka(&keys.aka, f)?;
                 show_chain(&keys.chain, f)
             }
+            Answer::Network(kind) => show_network(*kind, f),
+            Answer::Message(bytes) => show_message(bytes.as_slice(), f),
             Answer::Help => f.write_str(HELP),
         }
     }

@@ -13,6 +13,7 @@ use keys::KeyChain;
 use keys::Octets;
 use keys::PrimeKeys;
 use keys::kausf;
+use nas::network_kind;
 use std::alloc::Global;
 
 const SHA256: Form = Form {
@@ -31,6 +32,18 @@ const DERIVE: Form = Form {
     command: "derive",
     fields: &["ck", "ik", "autn", "snn", "supi", "abba"],
     plain: None,
+};
+
+const SNN: Form = Form {
+    command: "snn",
+    fields: &[],
+    plain: Some("name"),
+};
+
+const DECODE: Form = Form {
+    command: "decode",
+    fields: &[],
+    plain: Some("message"),
 };
 
 const HELP: Form = Form {
@@ -52,6 +65,8 @@ pub(crate) fn answer<'a>(heap: Global, line: &'a [u8]) -> Result<Option<Answer>,
         b"sha256" => sha256(heap, words)?,
         b"hmac" => hmac(heap, words)?,
         b"derive" => derive(heap, words)?,
+        b"snn" => snn(heap, words)?,
+        b"decode" => decode(heap, words)?,
         b"help" => {
             Values::read(heap, &HELP, words)?;
             Answer::Help
@@ -121,4 +136,16 @@ fn derive<'a>(heap: Global, words: Words<'a>) -> Result<Answer, Refusal<'a>> {
     let aka = AkaKeys::derive(&prime, identity);
     let chain = KeyChain::from_kausf(&kausf(&aka.emsk), &network, &supi, &abba);
     Ok(Answer::Keys(LogOnKeys { prime, aka, chain }))
+}
+
+fn snn<'a>(heap: Global, words: Words<'a>) -> Result<Answer, Refusal<'a>> {
+    let values = Values::read(heap, &SNN, words)?;
+    let name = values.plain_text("name")?;
+    Ok(Answer::Network(network_kind(name)))
+}
+
+fn decode<'a>(heap: Global, words: Words<'a>) -> Result<Answer, Refusal<'a>> {
+    let values = Values::read(heap, &DECODE, words)?;
+    let message = values.plain_bytes(heap, "message")?;
+    Ok(Answer::Message(message))
 }

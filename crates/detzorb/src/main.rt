@@ -2,6 +2,7 @@
 mod answer;
 mod commands;
 mod hex;
+mod message;
 mod refusal;
 mod words;
 

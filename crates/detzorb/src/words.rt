@@ -161,7 +161,15 @@ impl<'a> Values<'a> {
         decode(heap, name, self.text(name)?)
     }
 
-    // The bytes of the plain word, under the name that answers call it.
+    // The plain word itself, under the name that answers call it.
+    pub(crate) fn plain_text(&self, name: &'static str) -> Result<&'a [u8], Refusal<'a>> {
+        match self.plain {
+            Some(word) => Ok(word),
+            None => Err(Refusal::Missing(name)),
+        }
+    }
+
+    // The bytes that the plain word writes, under the name that answers call it.
     pub(crate) fn plain_bytes(
         &self,
         heap: Global,

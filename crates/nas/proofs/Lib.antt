@@ -1,0 +1,4 @@
+pub mod Soundness
+pub mod Walks
+pub mod Within
+pub mod Writes

@@ -1,0 +1,11 @@
+pub mod Cases
+pub mod Elements
+pub mod Faults
+pub mod Messages
+pub mod Names
+pub mod Outcomes
+pub mod Packets
+pub mod Parts
+pub mod Replies
+pub mod Sound
+pub mod Walk

@@ -1,0 +1,33 @@
+// Reads the network's authentication messages as parts of the bytes that came, and writes the replies to them.
+mod cases;
+mod element;
+mod elements;
+mod fault;
+mod message;
+mod name;
+mod packet;
+mod part;
+mod reply;
+
+pub use cases::worked_cases;
+pub use element::Element;
+pub use elements::Elements;
+pub use fault::ElementFault;
+pub use fault::MessageFault;
+pub use fault::MessageFaultClone;
+pub use fault::MessageFromElement;
+pub use fault::MessageFromPacket;
+pub use fault::MethodFault;
+pub use fault::NoMethod;
+pub use fault::NoMethodFault;
+pub use fault::PacketFault;
+pub use fault::PacketFaultClone;
+pub use message::Message;
+pub use message::read;
+pub use name::NetworkKind;
+pub use name::network_kind;
+pub use packet::Code;
+pub use packet::Packet;
+pub use part::Part;
+pub use reply::Response;
+pub use reply::frame_reply;
