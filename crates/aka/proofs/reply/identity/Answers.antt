@@ -7,7 +7,7 @@ use Rattle.aka.proofs.reply.identity.Goals as goal
 
 pub returns : goal.returns
 returns c =
-    let suci = c.as-slice-suci.result.now in
+    let suci = c.as_slice-suci.result.now in
     let n = length suci in
     let head = 5 ∷ 0 ∷ 0 ∷ 14 ∷ words_for n ∷ n / 256 ∷ n % 256 ∷ [] in
     let fill = 4 * words_for n - 4 - n in
@@ -17,4 +17,4 @@ returns c =
     let first : body c.put.new.self ≡ head = c.put.ensures ∙ ap (λ l. l ++ head) c.new-body.ensures in
     let second : body c.put-2.new.self ≡ head ++ suci = c.put-2.ensures ∙ ap (λ l. l ++ suci) first in
     let third : body c.put-3.new.self ≡ identity_body suci = c.put-3.ensures ∙ ap (λ l. l ++ take (fill - 0) (replicate 3 0)) second ∙ ap (λ l. (head ++ suci) ++ l) zeros in
-    third ∙ ap identity_body c.as-slice-suci.ensures.value
+    third ∙ ap identity_body c.as_slice-suci.ensures.value

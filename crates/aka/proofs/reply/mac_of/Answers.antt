@@ -6,9 +6,9 @@ use Rattle.aka.proofs.reply.mac_of.Goals as goal
 pub returns : goal.returns
 unfolding mac_with
 returns c =
-    let key = c.args.k-aut.now in
+    let key = c.args.k_aut.now in
     let first = c.update.ensures key [] c.new-hmac.ensures in
     let second = c.update-2.ensures key _ first in
     let third = c.update-3.ensures key _ second in
     let digest = c.finish-digest.ensures key _ third ∙ ap (hmac key) (append_assoc c.args.first.now c.args.second.now c.args.third.now) in
-    c.copy-from-slice.ensures.after ∙ ap (take 16) digest
+    c.copy_from_slice.ensures.after ∙ ap (take 16) digest

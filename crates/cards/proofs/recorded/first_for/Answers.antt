@@ -8,10 +8,10 @@ abbrev is : List ℕ → List ℕ → CardRow → Bool
 is rand autn r = is_for r rand autn
 
 pub loop-row-preserved : goal.loop-row-preserved
-loop-row-preserved c = first-passed (is c.args.rand.now c.args.autn.now) c.args.rows.now c.loop-row.row-index _ c.loop-row-test.true (sym c.if-is-for.ensures) ∙ c.loop-row.invariant
+loop-row-preserved c = first-passed (is c.args.rand.now c.args.autn.now) c.args.rows.now c.loop-row.row-index _ c.loop-row-test.true (sym c.if-is_for.ensures) ∙ c.loop-row.invariant
 
-pub returns-then-is-for : goal.returns-then-is-for
-returns-then-is-for c = ap said_by (sym (first_found (is c.args.rand.now c.args.autn.now) c.args.rows.now c.loop-row.row-index _ c.loop-row-test.true (sym c.if-is-for.ensures)) ∙ c.loop-row.invariant)
+pub returns-then-is_for : goal.returns-then-is_for
+returns-then-is_for c = ap said_by (sym (first_found (is c.args.rand.now c.args.autn.now) c.args.rows.now c.loop-row.row-index _ c.loop-row-test.true (sym c.if-is_for.ensures)) ∙ c.loop-row.invariant)
 
 pub returns : goal.returns
 returns c = ap said_by (sym (first-none (is c.args.rand.now c.args.autn.now) c.args.rows.now c.loop-row.row-index (omega arith)) ∙ c.loop-row.invariant)

@@ -15,8 +15,8 @@ pub returns : goal.returns
 returns c =
     let first = c.args.first.now in
     let out = c.args.out.now in
-    let a = c.copy-from-slice.new.self in
-    let long : length a ≡ length first = ap length c.copy-from-slice.ensures.after in
+    let a = c.copy_from_slice.new.self in
+    let long : length a ≡ length first = ap length c.copy_from_slice.ensures.after in
     let left : length out - length first ≤ length (a ++ drop (length first) out) - length first = simp (length-append, length-drop) (omega arith) in
-    let both = second_write a c.copy-from-slice-2.new.self out (length first) (length (a ++ drop (length first) out) - length first) long left in
-    both ∙ ap (λ l. l ++ c.copy-from-slice-2.new.self) c.copy-from-slice.ensures.after ∙ ap (λ l. first ++ l) c.copy-from-slice-2.ensures.after
+    let both = second_write a c.copy_from_slice-2.new.self out (length first) (length (a ++ drop (length first) out) - length first) long left in
+    both ∙ ap (λ l. l ++ c.copy_from_slice-2.new.self) c.copy_from_slice.ensures.after ∙ ap (λ l. first ++ l) c.copy_from_slice-2.ensures.after

@@ -9,7 +9,7 @@ loop-i-init c = refl
 pub loop-i-preserved : goal.loop-i-preserved
 loop-i-preserved c =
     let at : 16 * c.loop-i.i + 16 ≡ 16 * (c.loop-i.i + 1) = omega arith in
-    c.sixteen-rounds.ensures c.args.s.now c.loop-i.invariant ∙ ap (λ n. rounds n c.args.w.now c.args.s.now) at
+    c.sixteen_rounds.ensures c.args.s.now c.loop-i.invariant ∙ ap (λ n. rounds n c.args.w.now c.args.s.now) at
 
 pub returns : goal.returns
 returns c =

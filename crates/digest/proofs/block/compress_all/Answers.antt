@@ -6,7 +6,7 @@ pub loop-rest-init : goal.loop-rest-init
 loop-rest-init c = refl
 
 pub loop-rest-smaller : goal.loop-rest-smaller
-loop-rest-smaller c = omega (arith, c.split-at.ensures.back_len, c.loop-rest-test.true)
+loop-rest-smaller c = omega (arith, c.split_at.ensures.back_len, c.loop-rest-test.true)
 
 pub loop-rest-preserved : goal.loop-rest-preserved
 loop-rest-preserved c =

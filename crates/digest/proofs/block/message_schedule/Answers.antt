@@ -11,7 +11,7 @@ loop-t-init c = (refl, refl)
 pub loop-t-preserved : goal.loop-t-preserved
 unfolding word_at
 loop-t-preserved c =
-    (words_step c.loop-t.w c.args.block.now c.loop-t.t c.from-be-bytes.result (omega arith) c.loop-t.invariant.0 c.from-be-bytes.ensures, simp length-set c.loop-t.invariant.1)
+    (words_step c.loop-t.w c.args.block.now c.loop-t.t c.from_be_bytes.result (omega arith) c.loop-t.invariant.0 c.from_be_bytes.ensures, simp length-set c.loop-t.invariant.1)
 
 pub loop-i-init : goal.loop-i-init
 unfolding schedule
@@ -23,10 +23,10 @@ loop-i-preserved c =
     let t = 4 * c.loop-i.i in
     let low : 16 ≤ t = omega (arith, c.loop-i.auto.i) in
     let high : t + 3 < 64 = omega (arith, c.loop-i-test.true) in
-    let one = scheduled-more c.loop-i.w b t c.schedule-word.result low (omega arith) c.loop-i.invariant c.schedule-word.ensures in
-    let two = scheduled-next _ b t 1 c.schedule-word-in-loop-i.result (omega arith) (omega arith) one c.schedule-word-in-loop-i.ensures in
-    let three = scheduled-next _ b t 2 c.schedule-word-in-loop-i-2.result (omega arith) (omega arith) two c.schedule-word-in-loop-i-2.ensures in
-    let four = scheduled-next _ b t 3 c.schedule-word-in-loop-i-3.result (omega arith) (omega arith) three c.schedule-word-in-loop-i-3.ensures in
+    let one = scheduled-more c.loop-i.w b t c.schedule_word.result low (omega arith) c.loop-i.invariant c.schedule_word.ensures in
+    let two = scheduled-next _ b t 1 c.schedule_word-in-loop-i.result (omega arith) (omega arith) one c.schedule_word-in-loop-i.ensures in
+    let three = scheduled-next _ b t 2 c.schedule_word-in-loop-i-2.result (omega arith) (omega arith) two c.schedule_word-in-loop-i-2.ensures in
+    let four = scheduled-next _ b t 3 c.schedule_word-in-loop-i-3.result (omega arith) (omega arith) three c.schedule_word-in-loop-i-3.ensures in
     let at : t + 4 ≡ 4 * (c.loop-i.i + 1) = omega arith in
     subst (Scheduled _ b) at four
 

@@ -11,8 +11,8 @@ loop-i-init c = (refl, refl)
 pub loop-i-preserved : goal.loop-i-preserved
 unfolding word_bytes
 loop-i-preserved c =
-    let four : length c.to-be-bytes.result ≡ 4 = search rules in
-    (word_bytes-more c.args.words.now c.loop-i.out c.put.new.out c.to-be-bytes.result c.loop-i.i (omega arith) c.loop-i.invariant.0 c.to-be-bytes.ensures four c.put.ensures.front, search rules)
+    let four : length c.to_be_bytes.result ≡ 4 = search rules in
+    (word_bytes-more c.args.words.now c.loop-i.out c.put.new.out c.to_be_bytes.result c.loop-i.i (omega arith) c.loop-i.invariant.0 c.to_be_bytes.ensures four c.put.ensures.front, search rules)
 
 pub returns : goal.returns
 returns c =

@@ -9,15 +9,15 @@ use Rattle.keys.proofs.kdf.derive_key.Goals as goal
 pub loop-p-init : goal.loop-p-init
 loop-p-init c = c.update.ensures c.args.key.now [] c.new-mac.ensures
 
-pub overflow-cast-len : goal.overflow-cast-len
-overflow-cast-len c =
+pub overflow_cast-len : goal.overflow_cast-len
+overflow_cast-len c =
     let none : Bor (List ℕ) = record { ref_ptr = (0, 0); now = [] } in
     omega (arith, short-at (λ x. x.now) c.args.parameters.now c.loop-p.p-index none c.requires c.loop-p-test.true)
 
 pub loop-p-preserved : goal.loop-p-preserved
 loop-p-preserved c =
     let key = c.args.key.now in
-    let step = hashes-step (λ x. x.now) c.args.parameters.now c.loop-p.p-index c.args.fc _ c.to-be-bytes.result c.requires c.loop-p-test.true c.to-be-bytes.ensures in
+    let step = hashes-step (λ x. x.now) c.args.parameters.now c.loop-p.p-index c.args.fc _ c.to_be_bytes.result c.requires c.loop-p-test.true c.to_be_bytes.ensures in
     subst (Keyed c.update-in-loop-p-2.new.self key) step (c.update-in-loop-p-2.ensures key _ (c.update-in-loop-p.ensures key _ c.loop-p.invariant))
 
 pub returns : goal.returns

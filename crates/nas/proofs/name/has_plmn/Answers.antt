@@ -5,4 +5,4 @@ last : (a b x r : Bool) → true ≡ a → true ≡ b → r ≡ x → r ≡ (a &
 last a b x r p q h = h ∙ ap (λ t. t && x) (q ∙ ap (λ t. t && b) p)
 
 pub returns : goal.returns
-returns c = last _ _ _ _ c.if-not-is-labelled.ensures c.if-not-is-labelled-2.ensures c.stands.ensures
+returns c = last _ _ _ _ c.if-not-is_labelled.ensures c.if-not-is_labelled-2.ensures c.stands.ensures

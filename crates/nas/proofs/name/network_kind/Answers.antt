@@ -7,10 +7,10 @@ pub returns-in-32 : goal.returns-in-32
 unfolding network_kind
 returns-in-32 c = search rules
 
-pub returns-after-has-plmn : goal.returns-after-has-plmn
+pub returns-after-has_plmn : goal.returns-after-has_plmn
 unfolding network_kind
-returns-after-has-plmn c = search rules
+returns-after-has_plmn c = search rules
 
-pub returns-in-default : goal.returns-in-default
+pub returns-in_default : goal.returns-in_default
 unfolding network_kind
-returns-in-default c = grind (arith, nat_tests)
+returns-in_default c = grind (arith, nat_tests)

@@ -4,7 +4,7 @@ use Rattle.nas.proofs.reply.frame_reply.Goals as goal
 
 pub returns : goal.returns
 returns c =
-    let n = c.args.packet-len in
+    let n = c.args.packet_len in
     let b = c.args.buffer.now in
     let short : n ≤ 65535 = omega arith in
     let room : n + 6 ≤ length b = omega arith in

@@ -6,7 +6,7 @@ use Rattle.nas.proofs.reply.write_response.Goals as goal
 pub returns : goal.returns
 returns c =
     let i = c.args.identifier in
-    let t = c.args.eap-type in
+    let t = c.args.eap_type in
     let body = c.args.body.now in
     let out = c.args.out.now in
     let short : length body + 5 ≤ 65535 = omega arith in

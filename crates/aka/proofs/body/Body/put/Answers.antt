@@ -4,6 +4,6 @@ use Rattle.aka.proofs.body.Body.put.Goals as goal
 
 pub returns : goal.returns
 returns c =
-    let copied : c.copy-from-slice.new.self ≡ c.args.part.now = c.copy-from-slice.ensures.after in
+    let copied : c.copy_from_slice.new.self ≡ c.args.part.now = c.copy_from_slice.ensures.after in
     let long : length c.args.self.now.bytes ≡ 264 = search rules in
     search (rules, overwrites)

@@ -23,11 +23,11 @@ returns g c =
     let suci = octets c.args.suci.now in
     let found = judged g.C.Card.definition (holding_of c.args.self.now.block (g.C.Card.holding c.args.self.now.card)) p (subscriber c.args.subscription.now) in
     let says : answer c.settle-decision.result.reply ≡ found.decision.answer = ap (λ (d : Decided). d.answer) c.settle-decision.ensures.decision in
-    let reply = ap (λ i. response_packet i aka_type (body_of i suci (answer c.settle-decision.result.reply))) c.identifier-of-identifier.ensures ∙ ap (λ (a : Answer). response_packet (get_or p 1 0) aka_type (body_of (get_or p 1 0) suci a)) says in
+    let reply = ap (λ i. response_packet i aka_type (body_of i suci (answer c.settle-decision.result.reply))) c.identifier_of-identifier.ensures ∙ ap (λ (a : Answer). response_packet (get_or p 1 0) aka_type (body_of (get_or p 1 0) suci a)) says in
     record {
       verdict = ap (λ (d : Decided). d.verdict) c.settle-decision.ensures.decision;
       fault = faults_agree c.settle-decision.result.verdict;
-      len = c.write-reply-reply-len.ensures.len ∙ ap length reply;
-      reply = c.write-reply-reply-len.ensures.bytes ∙ ap (λ r. replied r c.args.reply.now) reply;
+      len = c.write_reply-reply_len.ensures.len ∙ ap length reply;
+      reply = c.write_reply-reply_len.ensures.bytes ∙ ap (λ r. replied r c.args.reply.now) reply;
       holds = ap (λ b. holding_of b (g.C.Card.holding c.settle-decision.new.self.card)) c.settle-decision.ensures.block ∙ ap (holding_of found.decision.block) c.settle-decision.ensures.stage;
     }

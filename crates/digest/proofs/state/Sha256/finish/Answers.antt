@@ -12,4 +12,4 @@ returns c m was =
     let long : length self.buffer ≡ 64 = search rules in
     let left = take (self.filled - 0) self.buffer in
     let short : length left ≡ self.filled = ap (λ i. length (take i self.buffer)) at ∙ length-take-le self.filled self.buffer (omega arith) in
-    c.bytes-of.ensures ∙ ap word_bytes (closes self m left c.close.new.state _ was (ap (λ i. take i self.buffer) at) short c.bits.ensures c.close.ensures)
+    c.bytes_of.ensures ∙ ap word_bytes (closes self m left c.close.new.state _ was (ap (λ i. take i self.buffer) at) short c.bits.ensures c.close.ensures)

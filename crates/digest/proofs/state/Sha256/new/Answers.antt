@@ -4,4 +4,4 @@ use Rattle.digest.proofs.state.Sha256.new.Goals as goal
 
 pub returns : goal.returns
 unfolding hash_blocks
-returns c = record { state_is = c.initial-hash-value.ensures; filled_is = refl; rest_is = refl; counted = refl }
+returns c = record { state_is = c.initial_hash_value.ensures; filled_is = refl; rest_is = refl; counted = refl }

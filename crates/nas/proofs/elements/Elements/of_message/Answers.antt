@@ -6,15 +6,15 @@ use Rattle.nas.specs.Messages.{elements_start, start_of}
 use Rattle.nas.specs.Outcomes.{then, raised}
 use Rattle.nas.proofs.elements.Elements.of_message.Goals as goal
 
-pub returns-in-err-mandatory : goal.returns-in-err-mandatory
+pub returns-in_err-mandatory : goal.returns-in_err-mandatory
 unfolding elements_start
-returns-in-err-mandatory g c =
+returns-in_err-mandatory g c =
     let p = err_from_is_err_and c.from-residual.result c.from-residual.ensures.1 in
-    let start = ap (λ s. then s (λ h. Ok (start_of h))) c.in-err-mandatory.ensures.value in
+    let start = ap (λ s. then s (λ h. Ok (start_of h))) c.in_err-mandatory.ensures.value in
     rw (p.1, p.2) (record { start = start; message = tt; listed = ap (λ s. then s (λ p. raised InElement (elements c.args.msg.now p))) start })
 
 pub returns : goal.returns
 unfolding elements_start
 returns g c =
-    let start = ap Ok c.end-at.ensures ∙ ap (λ s. then s (λ h. Ok (start_of h))) c.in-ok-mandatory.ensures.value in
+    let start = ap Ok c.end_at.ensures ∙ ap (λ s. then s (λ h. Ok (start_of h))) c.in_ok-mandatory.ensures.value in
     record { start = start; message = refl; listed = ap (λ s. then s (λ p. raised InElement (elements c.args.msg.now p))) start }
