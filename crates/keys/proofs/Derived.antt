@@ -2,7 +2,7 @@
 use Rattle.std.proofs.Common.{◌≡◌, ℕ, zero, suc, ◌+◌, ◌/◌, ◌%◌, ◌<◌, List, [], ◌∷◌, ◌++◌, map, length, get_or, take, sym, refl, ap, ◌∙◌, subst, append_assoc, arith}
 use Rattle.digest.specs.Hmac.{joined}
 use Rattle.digest.proofs.Keys.{joined_step}
-use Rattle.keys.specs.Kdf.{two_bytes-below, with_length, Short}
+use Rattle.keys.specs.Kdf.{two_bytes, with_length, Short}
 
 -- the parameters, each with its length, where each is some value's bytes
 abbrev pub hashes : {X : Type 0} → (X → List ℕ) → List X → List ℕ
@@ -19,7 +19,7 @@ short-at f (x ∷ xs) zero d all h = all.0
 short-at f (x ∷ xs) (suc i) d all h = short-at f xs i d all.1 (omega arith)
 
 -- a length below 65,536 as two bytes
-pub two_bytes-below : (n : ℕ) → n < 65536 → n / 256 % 256 ∷ n % 256 ∷ [] ≡ two_bytes-below n
+pub two_bytes-below : (n : ℕ) → n < 65536 → n / 256 % 256 ∷ n % 256 ∷ [] ≡ two_bytes n
 two_bytes-below n h = let e : n / 256 % 256 ≡ n / 256 = omega arith in ap (λ x. x ∷ n % 256 ∷ []) e
 
 -- one parameter more
@@ -27,6 +27,6 @@ pub hashes-step : {X : Type 0} (f : X → List ℕ) (xs : List X) (i fc : ℕ) (
     → (fc ∷ hashes f (take i xs) ++ f (get_or xs i d)) ++ bytes ≡ fc ∷ hashes f (take (i + 1) xs)
 hashes-step f xs i fc d bytes all h is =
     let p = f (get_or xs i d) in
-    let two : bytes ≡ two_bytes-below (length p) = is ∙ two_bytes-below (length p) (short-at f xs i d all h) in
+    let two : bytes ≡ two_bytes (length p) = is ∙ two_bytes-below (length p) (short-at f xs i d all h) in
     let step = joined_step (λ x. with_length (f x)) xs i d h in
     ap (λ l. fc ∷ l) (append_assoc (hashes f (take i xs)) p bytes ∙ ap (λ b. hashes f (take i xs) ++ (p ++ b)) two ∙ sym step)

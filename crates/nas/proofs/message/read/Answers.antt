@@ -4,11 +4,11 @@ use Rattle.nas.proofs.message.read.Goals as goal
 
 pub returns-in_err-mandatory : goal.returns-in_err-mandatory
 returns-in_err-mandatory g c =
-    let p = err_from_is_err_and c.from-residual.result c.from-residual.ensures.1 in
+    let p = err_from_is_err_and c.from_residual.result c.from_residual.ensures.1 in
     let r = refused c.args.msg.now _ c.type_inv.msg c.in_err-mandatory.ensures.value in
     rw (p.1, p.2) (record { value = r.value; sound = r.sound })
 
 pub returns : goal.returns
 returns g c =
-    let r = went_on c.args.msg.now _ _ _ c.in_ok-mandatory.ensures.value c.end_at.ensures c.read_elements.ensures c.ok.msg in
+    let r = went_on c.args.msg.now _ _ _ c.in_ok-mandatory.ensures.value c.end-at.ensures c.read_elements.ensures c.type_inv.msg in
     record { value = r.value; sound = r.sound }

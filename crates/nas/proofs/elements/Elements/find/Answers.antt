@@ -11,7 +11,7 @@ use Rattle.nas.proofs.elements.Elements.find.Goals as goal
 
 pub returns-in_err-element : goal.returns-in_err-element
 returns-in_err-element c =
-    let p = err_from_is_err_and c.from-residual.result c.from-residual.ensures.1 in
+    let p = err_from_is_err_and c.from_residual.result c.from_residual.ensures.1 in
     let all = ap (pick (tagged c.args.tag) (option_map element c.loop-element.found)) c.in_err-element.ensures.read in
     rw (p.1, p.2) (record { value = sym (pick-err (tagged c.args.tag) (option_map element c.loop-element.found) _) ∙ sym all ∙ c.loop-element.invariant; inside = tt })
 
