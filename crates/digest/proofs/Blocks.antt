@@ -1,6 +1,6 @@
 -- Laws of hashing whole blocks. Assumes nothing.
-use Rattle.std.proofs.Common.{◌≡◌, ℕ, zero, suc, ◌+◌, ◌-◌, ◌*◌, ◌/◌, ◌%◌, ◌<◌, ◌≤◌, List, [], ◌∷◌, ◌++◌, length, get_or, take, drop, sym, refl, ap, ◌∙◌, suc-add, zero-add, arith}
-use Rattle.std.proofs.lemmas.List.{length-drop, length-append, take-append-le, drop-append-le, nil_from_length}
+use Rattle.std.proofs.Common.{◌≡◌, ℕ, zero, suc, ◌+◌, ◌*◌, ◌/◌, ◌<◌, ◌≤◌, List, [], ◌++◌, length, take, drop, ap, suc-add, zero-add, arith}
+use Rattle.std.proofs.lemmas.List.{length-drop, take-append-le, drop-append-le, nil_from_length}
 use Rattle.digest.specs.Sha256.{compress, hash_blocks}
 
 -- one block and the rest of them

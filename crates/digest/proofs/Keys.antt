@@ -1,5 +1,5 @@
 -- The key's blocks of an HMAC, and the blocks of PRF'. Assumes nothing.
-use Rattle.std.proofs.Common.{◌≡◌, ℕ, suc, ◌+◌, ◌-◌, ◌*◌, ◌<◌, ◌≤◌, Bool, cond, ltb, List, [], ◌∷◌, ◌++◌, map, length, get_or, take, drop, set, replicate, sym, refl, ap, ◌∙◌, append_assoc, zero-add, add-one, arith}
+use Rattle.std.proofs.Common.{◌≡◌, ℕ, ◌+◌, ◌*◌, ◌<◌, Bool, cond, ltb, List, [], ◌∷◌, ◌++◌, map, length, get_or, take, drop, set, replicate, sym, ap, ◌∙◌, append_assoc, zero-add, add-one, arith}
 use lib.Bits.{bit_xor}
 use lib.Seq.{take-append-add}
 use Rattle.std.proofs.lemmas.List.{drop-replicate, length-take-le, take_all, take_more_set, map_more, append-nil}

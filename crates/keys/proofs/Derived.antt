@@ -1,5 +1,5 @@
 -- What the loop over the parameters of a derivation hashes. Assumes nothing.
-use Rattle.std.proofs.Common.{◌≡◌, ℕ, zero, suc, ◌+◌, ◌/◌, ◌%◌, ◌<◌, List, [], ◌∷◌, ◌++◌, map, length, get_or, take, sym, refl, ap, ◌∙◌, subst, append_assoc, arith}
+use Rattle.std.proofs.Common.{◌≡◌, ℕ, zero, suc, ◌+◌, ◌/◌, ◌%◌, ◌<◌, List, [], ◌∷◌, ◌++◌, map, length, get_or, take, sym, refl, ap, ◌∙◌, append_assoc, arith}
 use Rattle.digest.specs.Hmac.{joined}
 use Rattle.digest.proofs.Keys.{joined_step}
 use Rattle.keys.specs.Kdf.{two_bytes, with_length, Short}

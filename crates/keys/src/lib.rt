@@ -1,4 +1,6 @@
 // The keys of a log-on: CK' and IK', the key set of EAP-AKA', and the chain from KAUSF over KSEAF to KAMF. No heap.
+#![tactic(auto)]
+
 mod aka;
 mod bounded;
 mod chain;

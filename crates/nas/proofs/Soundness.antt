@@ -1,8 +1,6 @@
 -- Every message that was read is sound. Assumes nothing.
-use Rattle.std.proofs.Common.{◌≡◌, ℕ, ◌+◌, ◌%◌, ◌<◌, ◌≤◌, Bool, true, false, cond, ◌&&◌, eqb, leb, ◌⊎◌, List, length, get_or, Some, None, Ok, Err, Option, Result, sym, refl, ap, ◌∙◌, subst, inl, inr, ⊎_elim, arith, length-drop, length-take, w8, Fits}
-use Rattle.std.specs.Option.{option_map}
+use Rattle.std.proofs.Common.{◌≡◌, ℕ, ◌+◌, ◌%◌, ◌<◌, ◌≤◌, leb, ◌⊎◌, List, length, get_or, Some, None, Ok, Err, Option, Result, sym, refl, ap, ◌∙◌, subst, inl, inr, ⊎_elim, arith, length-drop, length-take, w8, Fits}
 use Rattle.std.proofs.lemmas.Bool.{leb-true, eqb-true, eqb-false, and_parts}
-use Rattle.nas.specs.declared.fault.ElementFault.{ElementFault}
 use Rattle.nas.specs.declared.fault.ElementFault.TheVariants.{Cut}
 use Rattle.nas.specs.declared.fault.PacketFault.{PacketFault}
 use Rattle.nas.specs.declared.fault.MessageFault.{MessageFault}
@@ -11,13 +9,12 @@ use Rattle.nas.specs.declared.message.MessageType.{MessageType}
 use Rattle.nas.specs.declared.message.MessageType.TheVariants.{Request as InRequest, Result as InResult, Reject as InReject}
 use Rattle.nas.specs.declared.packet.Code.{Code}
 use Rattle.nas.specs.declared.packet.Code.TheVariants.{Request as CodeRequest, Success as CodeSuccess, Failure as CodeFailure}
-use Rattle.nas.specs.Elements.{Elem, elements, end_at, whole_at, tagged, value_of, at_tag, header_of, length_of, length_at}
-use Rattle.nas.specs.Messages.{Contents, request, success, failure, reject, Fixed, of_request, of_result, of_reject, mandatory, typed, fixed_in, message_type_of, ngksi_of, lv_at, lv_e_at, start_of, needed, long_enough, for_keys, request_of, result_for, result_of, reject_for, reject_of, contents_of, read_message}
-use Rattle.nas.specs.Outcomes.{then, raised, IfRead}
+use Rattle.nas.specs.Elements.{Elem, elements, value_of, at_tag, header_of, length_of, length_at}
+use Rattle.nas.specs.Messages.{Contents, request, success, failure, reject, Fixed, of_request, of_result, of_reject, mandatory, typed, fixed_in, message_type_of, ngksi_of, start_of, needed, long_enough, for_keys, request_of, result_for, result_of, reject_for, contents_of, read_message}
+use Rattle.nas.specs.Outcomes.{then, IfRead}
 use Rattle.nas.specs.Packets.{EapPacket, code_in, coded, packet_in}
 use Rattle.nas.specs.Parts.{Field, cut, two_bytes}
-use Rattle.nas.specs.Sound.{Lies, ForKeys, Carried, SoundRequest, SoundSuccess, SoundFailure, Sound}
-use Rattle.nas.specs.Walk.{first}
+use Rattle.nas.specs.Sound.{Lies, ForKeys, Carried, SoundFailure, Sound}
 use Rattle.nas.proofs.Within.{Found, found, found_header}
 use Rattle.nas.proofs.Outcomes.{then_ok, raised-ok, cond-ok, cond-not, cond-some, cond-than, cond-or}
 

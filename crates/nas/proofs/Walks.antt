@@ -1,8 +1,8 @@
 -- How a reader goes on, and that a walk with turns enough gives every part. Assumes nothing.
-use Rattle.std.proofs.Common.{◌≡◌, ℕ, zero, suc, ◌+◌, ◌-◌, ◌<◌, ◌≤◌, Bool, true, false, cond, ◌⊎◌, List, [], ◌∷◌, IfSome, Some, None, Ok, Err, Option, Result, sym, refl, ap, ◌∙◌, subst, inl, inr, ⊎_elim, arith}
+use Rattle.std.proofs.Common.{◌≡◌, ℕ, zero, suc, ◌+◌, ◌-◌, ◌<◌, ◌≤◌, Bool, true, cond, List, [], ◌∷◌, IfSome, Some, None, Ok, Err, Option, Result, sym, refl, ap, ◌∙◌, subst, ⊎_elim, arith}
 use Rattle.std.proofs.lemmas.Bool.{lt-ltb, le-ltb, cond-true, cond-false, cases_lt, cond_both}
 use Rattle.nas.specs.Outcomes.{IfFound}
-use Rattle.nas.specs.Walk.{walk, more, step, stepped, Step, read_first, first, first_in, keep_first}
+use Rattle.nas.specs.Walk.{walk, more, step, stepped, read_first, first, first_in, keep_first}
 
 -- where a part was found already, the others have only to be without fault
 abbrev pub pick : {X E : Type 0} → (X → Bool) → Option X → Result (List X) E → Result (Option X) E

@@ -1,5 +1,5 @@
 -- An element that was read lies inside the message. Assumes nothing.
-use Rattle.std.proofs.Common.{◌≡◌, ℕ, ◌+◌, ◌-◌, ◌<◌, ◌≤◌, Bool, true, false, cond, leb, ◌⊎◌, List, length, Some, None, Ok, Err, Option, Result, sym, refl, ap, ◌∙◌, subst, inl, inr, ⊎_elim, arith, length-drop, length-take}
+use Rattle.std.proofs.Common.{◌≡◌, ℕ, ◌-◌, ◌<◌, ◌≤◌, leb, List, length, Some, None, Ok, Err, Option, Result, sym, ap, ◌∙◌, subst, ⊎_elim, arith, length-drop, length-take}
 use Rattle.std.proofs.lemmas.Bool.{cases_Bool, leb-true, cond-true, cond-false, eqb-true}
 use Rattle.std.proofs.lemmas.Bool.Decides.{nat_tests}
 use Rattle.std.specs.Option.{option_map}
@@ -7,7 +7,7 @@ use Rattle.nas.specs.declared.element.Element.{Element}
 use Rattle.nas.specs.declared.fault.ElementFault.{ElementFault}
 use Rattle.nas.specs.declared.fault.ElementFault.TheVariants.{Cut}
 use Rattle.nas.specs.Elements.{Elem, element, end_at, whole_at, element_at, element_step, elements, end_of, header_of, tagged}
-use Rattle.nas.specs.Walk.{read_first, first}
+use Rattle.nas.specs.Walk.{first}
 use Rattle.nas.specs.Outcomes.{IfFound}
 use Rattle.nas.proofs.Walks as walks
 use Rattle.nas.proofs.Walks.{found_has}

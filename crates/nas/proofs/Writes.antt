@@ -1,9 +1,9 @@
 -- What the writers leave in their buffer. Assumes nothing.
-use Rattle.std.proofs.Common.{◌≡◌, ℕ, suc, ◌+◌, ◌/◌, ◌%◌, ◌≤◌, Bool, true, ◌&&◌, List, [], ◌∷◌, ◌++◌, length, take, drop, Some, sym, refl, ap, ◌∙◌, arith, length-drop, take-append-drop, length-take}
+use Rattle.std.proofs.Common.{◌≡◌, ℕ, ◌+◌, ◌/◌, ◌%◌, ◌≤◌, true, List, [], ◌∷◌, ◌++◌, length, drop, Some, sym, ap, ◌∙◌, arith, length-drop, take-append-drop, length-take}
 use Rattle.std.proofs.lemmas.List.{drop-drop}
 use Rattle.std.proofs.lemmas.Bool.{le-leb, and_from, cond-true}
 use Rattle.nas.specs.Parts.{cut}
-use Rattle.nas.specs.Replies.{over, response_packet, fits, written, written_length, reply_message, fits_framed, framed, framed_length}
+use Rattle.nas.specs.Replies.{over, response_packet, fits, written, written_length, fits_framed, framed, framed_length}
 
 -- a response whose header and body were put one after the other
 module _ (i t : ℕ) (body out : List ℕ) (short : length body + 5 ≤ 65535) (room : length body + 5 ≤ length out) where

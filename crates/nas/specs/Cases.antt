@@ -5,7 +5,7 @@ use Rattle.nas.specs.declared.fault.NoMethod.{NoMethod}
 use Rattle.nas.specs.declared.name.NetworkKind.{NetworkKind}
 use Rattle.nas.specs.declared.packet.Code.TheVariants.{Failure}
 use Rattle.nas.specs.Faults.{number_of, layer_of, place_of}
-use Rattle.nas.specs.Messages.{Contents, request, success, failure, reject, read_message}
+use Rattle.nas.specs.Messages.{Contents, failure, read_message}
 use Rattle.nas.specs.Names.{network_kind, name_number}
 use Rattle.nas.specs.Parts.{cut}
 

@@ -1,5 +1,5 @@
 -- The network's authentication messages of TS 24.501, by their bytes: each part is a cut of the message, with its place. Assumes nothing.
-use Rattle.std.specs.Prelude.{ℕ, ◌+◌, ◌%◌, Bool, cond, ◌&&◌, List, length, Some, None, Ok, Err, Option, Result, ◌==◌, nat_le, slice_index}
+use Rattle.std.specs.Prelude.{ℕ, ◌+◌, ◌%◌, cond, ◌&&◌, List, length, Some, None, Ok, Err, Option, Result, ◌==◌, nat_le, slice_index}
 use Rattle.std.specs.Option.{option_map}
 use Rattle.nas.specs.declared.fault.ElementFault.{ElementFault}
 use Rattle.nas.specs.declared.fault.ElementFault.TheVariants.{Cut}

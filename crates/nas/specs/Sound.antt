@@ -1,5 +1,5 @@
 -- What every message that was read has, so that a caller need not open the definition of reading. Assumes nothing.
-use Rattle.std.specs.Prelude.{◌≡◌, ℕ, ◌+◌, ◌%◌, ◌<◌, ◌≤◌, List, length, Some, None, Option, slice_index, slice_index_or}
+use Rattle.std.specs.Prelude.{◌≡◌, ℕ, ◌+◌, ◌%◌, ◌<◌, ◌≤◌, List, length, Some, None, slice_index, slice_index_or}
 use Rattle.nas.specs.declared.packet.Code.{Code}
 use Rattle.nas.specs.declared.packet.Code.TheVariants.{Request as CodeRequest, Success as CodeSuccess, Failure as CodeFailure}
 use Rattle.nas.specs.Messages.{Contents, request, success, failure, reject}

@@ -1,4 +1,6 @@
 // Reads the network's authentication messages as parts of the bytes that came, and writes the replies to them.
+#![tactic(auto)]
+
 mod cases;
 mod element;
 mod elements;

@@ -1,4 +1,3 @@
-use Rattle.std.proofs.Common.{◌≡◌}
 use Rattle.digest.specs.Sha256.{add, ch, maj, round}
 use Rattle.digest.proofs.Sums.{first-sum, second_sum}
 use Rattle.digest.proofs.block.apply_round.Goals as goal

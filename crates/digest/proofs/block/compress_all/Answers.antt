@@ -1,4 +1,4 @@
-use Rattle.std.proofs.Common.{◌≡◌, refl, arith}
+use Rattle.std.proofs.Common.{refl, arith}
 use Rattle.digest.proofs.Blocks.{hash_blocks-step, hash_blocks-end}
 use Rattle.digest.proofs.block.compress_all.Goals as goal
 

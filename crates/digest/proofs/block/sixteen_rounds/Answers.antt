@@ -1,5 +1,5 @@
-use Rattle.std.proofs.Common.{◌≡◌, ◌+◌, sym, ap, ◌∙◌, add-zero}
-use Rattle.digest.specs.Sha256.{rounds, round, round_constants}
+use Rattle.std.proofs.Common.{◌≡◌, ◌+◌}
+use Rattle.digest.specs.Sha256.{rounds, round_constants}
 use Rattle.digest.proofs.Rounds.{rounds-next, rounds-more}
 use Rattle.digest.proofs.block.sixteen_rounds.Goals as goal
 

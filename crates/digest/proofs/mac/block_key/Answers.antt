@@ -1,4 +1,4 @@
-use Rattle.std.proofs.Common.{◌≡◌, true, false, [], ap, ◌∙◌}
+use Rattle.std.proofs.Common.{true, false, [], ap, ◌∙◌}
 use Rattle.digest.specs.Hmac.{zero_filled}
 use Rattle.digest.proofs.Keys.{filled_is, block_key-is}
 use Rattle.digest.proofs.mac.block_key.Goals as goal

@@ -1,6 +1,6 @@
-use Rattle.std.proofs.Common.{◌≡◌, ℕ, List, [], ◌∷◌, ◌++◌, map, take, sym, ap, ◌∙◌, subst, append_assoc, arith}
+use Rattle.std.proofs.Common.{[], ◌++◌, map, take, sym, ap, ◌∙◌, subst, append_assoc, arith}
 use Rattle.std.proofs.lemmas.List.{append-nil, take_all}
-use Rattle.digest.specs.Hmac.{joined, hmac}
+use Rattle.digest.specs.Hmac.{joined}
 use Rattle.digest.specs.Keyed.{Keyed}
 use Rattle.digest.proofs.Keys.{joined_step}
 use Rattle.digest.proofs.prf.next_block.Goals as goal

@@ -1,4 +1,4 @@
-use Rattle.std.proofs.Common.{◌≡◌, ◌*◌, List, [], map, length, take, replicate, sym, refl, ap, ◌∙◌, arith, rules}
+use Rattle.std.proofs.Common.{◌≡◌, ◌*◌, [], map, length, take, replicate, sym, refl, ap, ◌∙◌, arith, rules}
 use Rattle.digest.specs.Hmac.{joined, prf_prime, prf_block, prf_blocks}
 use Rattle.digest.proofs.Keys.{prf_step, prf_end}
 use Rattle.digest.proofs.prf.prf_prime.Goals as goal

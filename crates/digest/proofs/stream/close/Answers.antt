@@ -1,4 +1,4 @@
-use Rattle.std.proofs.Common.{◌≡◌, ◌+◌, ◌-◌, ◌%◌, ◌≤◌, length, take, ap, arith}
+use Rattle.std.proofs.Common.{◌≡◌, ◌+◌, ◌-◌, ◌%◌, ◌≤◌, length, ap, arith}
 use Rattle.digest.specs.Sha256.{length_field}
 use Rattle.digest.proofs.Tail.{tail_is}
 use Rattle.digest.proofs.stream.close.Goals as goal

@@ -1,6 +1,6 @@
-use Rattle.std.proofs.Common.{◌≡◌, ℕ, List, [], ◌∷◌, map, take, ap, ◌∙◌, subst, arith, Bor}
+use Rattle.std.proofs.Common.{ℕ, List, [], ◌∷◌, ap, ◌∙◌, subst, arith, Bor}
 use Rattle.std.proofs.lemmas.List.{take_all}
-use Rattle.digest.specs.Hmac.{joined, hmac}
+use Rattle.digest.specs.Hmac.{hmac}
 use Rattle.digest.specs.Keyed.{Keyed}
 use Rattle.keys.specs.Kdf.{kdf}
 use Rattle.keys.proofs.Derived.{hashes, hashes-all, hashes-step, short-at}

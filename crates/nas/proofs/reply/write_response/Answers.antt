@@ -1,4 +1,4 @@
-use Rattle.std.proofs.Common.{◌≡◌, ◌+◌, ◌≤◌, length, ap, ◌∙◌, arith}
+use Rattle.std.proofs.Common.{◌+◌, ◌≤◌, length, ap, ◌∙◌, arith}
 use Rattle.nas.specs.Replies.{over}
 use Rattle.nas.proofs.Writes.{response-length, response-written}
 use Rattle.nas.proofs.reply.write_response.Goals as goal

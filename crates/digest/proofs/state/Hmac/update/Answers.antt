@@ -1,6 +1,6 @@
 use Rattle.std.proofs.Common.{◌++◌, subst, append_assoc}
 use Rattle.digest.specs.Absorbed.{Absorbed}
-use Rattle.digest.specs.Hmac.{key_xor, ipad, opad}
+use Rattle.digest.specs.Hmac.{key_xor, ipad}
 use Rattle.digest.proofs.state.Hmac.update.Goals as goal
 
 pub returns : goal.returns

@@ -1,4 +1,4 @@
-use Rattle.std.proofs.Common.{◌≡◌, ℕ, ◌+◌, ◌-◌, ◌*◌, ◌/◌, ◌%◌, ◌<◌, ◌≤◌, List, [], ◌++◌, length, take, drop, sym, refl, ap, ◌∙◌, subst, append_assoc, arith, length-append, rules}
+use Rattle.std.proofs.Common.{◌≡◌, ◌+◌, ◌/◌, [], ◌++◌, length, take, sym, refl, ap, ◌∙◌, append_assoc, arith, length-append, rules}
 use Rattle.digest.specs.Sha256.{hash_blocks}
 use Rattle.std.proofs.lemmas.List.{length-take-le, take_all}
 use Rattle.digest.proofs.Joining.{absorbs, few, hash_blocks-two, rest-two}
