@@ -1,4 +1,6 @@
 // SHA-256 for a caller in C, to measure its speed.
+#![tactic(auto)]
+
 ghost use Rattle.std.specs.Prelude.{cond, ◌≡◌, eqb, length};
 ghost use Rattle.digest.specs.Sha256.{sha256};
 

@@ -7,10 +7,9 @@ use Rattle.method.specs.declared.row.Outcome.{Outcome}
 use Rattle.method.specs.declared.row.Outcome.TheVariants.{GoOn as SaysGoOn, Grant, Refuse}
 use Rattle.method.specs.declared.row.ScriptedFault.{ScriptedFault}
 use Rattle.method.specs.declared.row.ScriptedFault.TheVariants.{NoRow, OutsideStore}
-use Rattle.method.specs.declared.weighing.Verdict.{Verdict}
 use Rattle.method.specs.declared.weighing.Verdict.TheVariants.{GoOn, Granted, Unproven}
 use Rattle.method.specs.Method.{Holding}
-use Rattle.method.specs.Scripted.{Script, Decision, number_of, first_row, granted_from, decided, scripted, scripted_type}
+use Rattle.method.specs.Scripted.{Script, Decision, number_of, first_row, decided, scripted, scripted_type}
 use Rattle.method.specs.Subscribers.{Subscriber}
 
 pub type_of_a_method : (4 ≤ scripted_type) × (scripted_type ≤ 253)

@@ -1,5 +1,4 @@
 -- The scripted method's definition, with what every method keeps. Assumes nothing.
-use Rattle.std.specs.Prelude.{ℕ}
 use Rattle.method.specs.declared.row.ScriptedFault.{ScriptedFault}
 use Rattle.method.specs.declared.row.Scripted.{Scripted}
 use Rattle.method.specs.Method.{Definition, Holding}

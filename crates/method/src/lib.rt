@@ -1,4 +1,6 @@
 // The interface of an EAP method with what it means, and the scripted method.
+#![tactic(auto)]
+
 mod interface;
 mod row;
 mod scripted;
