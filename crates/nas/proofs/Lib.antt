@@ -1,4 +1,5 @@
 pub mod Outcomes
+pub mod Own
 pub mod Soundness
 pub mod Walks
 pub mod Within

@@ -40,3 +40,8 @@ place_of place (InPacket (WrongCode p)) = p
 place_of place (InPacket (InMethod p f)) = p + place f
 place_of place NoKeySet = 3
 place_of place (WrongAbba p) = p
+
+-- the fault is the message's or the packet's own, and not the method's
+abbrev pub IsOwn : {F : Type 0} → MessageFault F → Type 0
+IsOwn (InPacket (InMethod p f)) = ⊥
+IsOwn f = Unit {0}

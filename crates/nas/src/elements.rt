@@ -1,8 +1,9 @@
 // The reader of a message's elements.
-ghost use Rattle.std.specs.Prelude.{◌≡◌, ◌≤◌, length};
+ghost use Rattle.std.specs.Prelude.{◌≡◌, ◌≤◌, IfErr, length};
 ghost use Rattle.std.specs.Option.{option_map};
 ghost use Rattle.nas.specs.Elements.{element, element_step, end_of, tagged, unread};
 ghost use Rattle.nas.specs.declared.fault.MessageFault.TheVariants.{InElement};
+ghost use Rattle.nas.specs.Faults.{IsOwn};
 ghost use Rattle.nas.specs.Messages.{elements_of, elements_start};
 ghost use Rattle.nas.specs.Outcomes.{IfFound, IfRead, raised, seen, then};
 ghost use Rattle.nas.specs.Walk.{first, keep_first, read_first};
@@ -34,6 +35,7 @@ impl<'a> Elements<'a> {
         ensures start { seen (λ e. e.at) result ≡ elements_start msg.now }
         ensures message { IfRead (λ e. e.msg.now ≡ msg.now) result }
         ensures listed { then result (λ e. raised InElement (unread e)) ≡ elements_of msg.now }
+        ensures own { IfErr result IsOwn }
     {
         let mandatory = read_mandatory(msg)?;
         let at = mandatory.end();

@@ -16,9 +16,9 @@ pub trait MethodFault {
         ensures { result ≡ place self.now };
 }
 
-// The fault of a reader that has no method: there is none.
+// The fault of a reader that has no method: nothing makes one.
 #[derive(Clone, Copy)]
-pub enum NoMethod {}
+pub struct NoMethod(());
 
 impl MethodFault for NoMethod {
     ghost number = { λ _. 0 };
@@ -26,11 +26,11 @@ impl MethodFault for NoMethod {
     ghost place = { λ _. 0 };
 
     fn number(&self) -> u8 {
-        match *self {}
+        0
     }
 
     fn place(&self) -> u16 {
-        match *self {}
+        0
     }
 }
 

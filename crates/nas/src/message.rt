@@ -1,7 +1,8 @@
 // The network's authentication messages, whose parts stay where they lie.
-ghost use Rattle.std.specs.Prelude.{◌≡◌, ◌+◌, ◌≤◌, length};
+ghost use Rattle.std.specs.Prelude.{◌≡◌, ◌+◌, ◌≤◌, IfErr, length};
 ghost use Rattle.std.specs.Option.{option_map};
 ghost use Rattle.nas.specs.Elements.{unread};
+ghost use Rattle.nas.specs.Faults.{IsOwn};
 ghost use Rattle.nas.specs.Messages.{contents, contents_of, fixed, fixed_in, for_keys, lv_at, lv_e_at, mandatory, message_type_of, ngksi_of, read_message, reject_of, request_of, result_of, start_of};
 ghost use Rattle.nas.specs.Outcomes.{IfRead, seen};
 ghost use Rattle.nas.specs.Parts.{field};
@@ -268,6 +269,7 @@ fn read_elements<'a, F>(
 pub fn read<'a, F>(msg: &'a [u8]) -> Result<Message<'a>, MessageFault<F>>
     ensures value { seen contents result ≡ read_message msg.now }
     ensures sound { IfRead (Sound msg.now) (seen contents result) }
+    ensures own { IfErr result IsOwn }
 {
     let mandatory = read_mandatory(msg)?;
     let at = mandatory.end();
