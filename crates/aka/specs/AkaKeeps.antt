@@ -5,7 +5,7 @@ use Rattle.std.specs.Str.{bytes_eq}
 use Rattle.std.proofs.lemmas.List.{length-take-le, length-replicate}
 use Rattle.std.proofs.lemmas.Bool.{cond_both}
 use Rattle.digest.specs.Hmac.{hmac, joined}
-use Rattle.digest.proofs.Lengths.{prf-length}
+use Rattle.digest.proofs.Lengths.{prf_prime-length}
 use Rattle.keys.specs.Keys.{ck_prime, ik_prime, master_key, k_aut_of, msk_of, emsk_of}
 use Rattle.nas.specs.Replies.{response_packet}
 use Rattle.method.specs.declared.weighing.Verdict.{Verdict}
@@ -62,7 +62,7 @@ Leaves held (Unproven f) block = block ≡ None
 block_length : (s : Subscriber) (autn ck ik : List ℕ) → length (key_block (master_key_for s autn ck ik)) ≡ 128
 block_length s autn ck ik =
     let mk = master_key_for s autn ck ik in
-    let all : length mk ≡ 208 = prf-length _ _ in
+    let all : length mk ≡ 208 = prf_prime-length _ _ in
     let msk : length (msk_of mk) ≡ 64 = length-take-le 64 (drop 80 mk) (omega (arith, length-drop 80 mk)) in
     let emsk : length (emsk_of mk) ≡ 64 = length-take-le 64 (drop 144 mk) (omega (arith, length-drop 144 mk)) in
     length-append (msk_of mk) (emsk_of mk) ∙ omega arith

@@ -1,7 +1,7 @@
 // What EAP-AKA' decides on a request that was read.
 ghost use Rattle.std.specs.Prelude.{◌≡◌, ◌+◌, ◌≤◌, length, take, drop};
 ghost use Rattle.attributes.specs.Requests.{challenge_parts, kdf_list};
-ghost use Rattle.keys.specs.Keys.{k_aut_of as kAutOf};
+ghost use Rattle.keys.specs.Keys.{k_aut_of};
 ghost use Rattle.method.specs.Subscribers.{subscriber};
 ghost use Rattle.aka.specs.Aka.{decided, key_block, master_key_for, offered, on_identity, on_keys, on_outcome, prefers_aka_prime, unproven, untold};
 ghost use Rattle.aka.specs.Replies.{answer, mac_with, zeroed_at};
@@ -133,7 +133,7 @@ fn session_keys(
     ck: &[u8; 16],
     ik: &[u8; 16],
 ) -> SessionKeys
-    ensures k_aut { result.k_aut ≡ kAutOf (master_key_for (subscriber subscription.now) autn.now ck.now ik.now) }
+    ensures k_aut { result.k_aut ≡ k_aut_of (master_key_for (subscriber subscription.now) autn.now ck.now ik.now) }
     ensures block { result.block ≡ key_block (master_key_for (subscriber subscription.now) autn.now ck.now ik.now) }
 {
     let prime = PrimeKeys::derive(ck, ik, &subscription.network, autn);

@@ -1,4 +1,6 @@
 // EAP-AKA' (RFC 4187, RFC 5448) over any card. No heap.
+#![tactic(auto)]
+
 mod body;
 mod decision;
 mod fault;

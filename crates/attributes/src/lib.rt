@@ -1,4 +1,6 @@
 // Reads the requests of EAP-AKA' as parts of the packet that came.
+#![tactic(auto)]
+
 mod attribute;
 mod fault;
 mod gather;

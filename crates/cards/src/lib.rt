@@ -1,4 +1,6 @@
 // Cards: the interface of a subscriber's card with what it means, the recorded card and the test card.
+#![tactic(auto)]
+
 mod card;
 mod cases;
 mod kinds;

@@ -4,7 +4,7 @@ use Rattle.std.specs.Prelude.{◌≡◌, ℕ, ◌*◌, ◌/◌, ◌%◌, ◌^◌
 use Rattle.digest.specs.Sha256.{hash_blocks, initial_hash_value}
 use Rattle.digest.specs.declared.state.Sha256.{Sha256}
 
--- `h` has taken in the bytes `m`: it has hash_blocks their whole blocks, and keeps the rest and how many they are
+-- `h` has taken in the bytes `m`: it has hashed their whole blocks, and keeps the rest and how many they are
 pub record Absorbed (h : Sha256) (m : List ℕ) : Type 0 where
   pub state_is : h.state ≡ hash_blocks (length m / 64) m initial_hash_value
   pub filled_is : h.filled ≡ length m % 64

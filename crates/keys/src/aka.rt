@@ -38,16 +38,26 @@ pub(crate) fn part<const N: usize>(bytes: &[u8], at: usize) -> [u8; N]
     out
 }
 
+// A list of bytes, and after it one that is as long.
+fn halves<const N: usize>(first: &[u8], second: &[u8]) -> [u8; N]
+    requires same { length second.now ≡ length first.now }
+    requires whole { N ≡ length first.now + length first.now }
+    ensures { result ≡ first.now ++ second.now }
+{
+    let half = first.len();
+    let mut out = [0; N];
+    for i in 0..half {
+        out[i] = first[i];
+        out[half + i] = second[i];
+    }
+    out
+}
+
 // One key after the other.
 fn pair(first: &[u8; 16], second: &[u8; 16]) -> [u8; 32]
     ensures { result ≡ first.now ++ second.now }
 {
-    let mut out = [0; 32];
-    for i in 0..16 {
-        out[i] = first[i];
-        out[16 + i] = second[i];
-    }
-    out
+    halves(first, second)
 }
 
 // CK' and IK' one after the other.
@@ -105,5 +115,12 @@ impl AkaKeys {
             msk: part(&mk, 80),
             emsk: part(&mk, 144),
         }
+    }
+
+    // The key material that a log-on leaves: MSK, then EMSK.
+    pub fn key_block(&self) -> [u8; 128]
+        ensures { result ≡ self.now.msk ++ self.now.emsk }
+    {
+        halves(&self.msk, &self.emsk)
     }
 }

@@ -13,7 +13,7 @@ use Rattle.attributes.proofs.gather.gather.Goals as goal
 
 pub returns-in_err-attribute : goal.returns-in_err-attribute
 returns-in_err-attribute c =
-    let p = err_from_is_err_and c.from-residual.result c.from-residual.ensures.1 in
+    let p = err_from_is_err_and c.from_residual.result c.from_residual.ensures.1 in
     let all = ap (settled (seen gathered c.loop-attribute.found)) c.in_err-attribute.ensures.read in
     rw (p.1, p.2) (sym all ∙ c.loop-attribute.invariant.0)
 

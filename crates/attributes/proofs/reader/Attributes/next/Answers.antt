@@ -9,7 +9,7 @@ use Rattle.attributes.proofs.reader.Attributes.next.Goals as goal
 
 pub returns-in_err-attribute : goal.returns-in_err-attribute
 returns-in_err-attribute c =
-    let p = err_from_is_err_and c.from-residual.result c.from-residual.ensures.1 in
+    let p = err_from_is_err_and c.from_residual.result c.from_residual.ensures.1 in
     let r = at_cut c.args.self.now.packet.now c.args.self.now.at _ c.in_err-attribute.ensures.value in
     rw (p.1, p.2) (record { found = r.found; moved = r.moved; kept = refl; read = r.read })
 
