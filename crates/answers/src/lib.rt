@@ -1,4 +1,6 @@
 // What the program answers to a line of a script that it can read, in words.
+#![tactic(auto)]
+
 mod answer;
 mod hex;
 mod message;

@@ -1,4 +1,6 @@
 // Plays a script: reads it line by line, and answers each line on the standard output.
+#![tactic(auto)]
+
 mod play;
 mod player;
 
@@ -7,6 +9,7 @@ use play::play;
 use player::Player;
 use std::fs::File;
 use std::io::{BufReader, BufWriter};
+use std::process::ExitCode;
 use std::{env, io};
 
 const USAGE: &str = "usage: detzorb [FILE]
@@ -66,21 +69,29 @@ fn refuse_arguments(rt: &HostRuntime) -> Result<bool, Ended> {
     Err(Ended::Told)
 }
 
-fn main(rt: HostRuntime) -> Result<(), Ended> {
-    let mut args = env::args(&rt)?;
+// Does what the arguments ask for.
+fn run(rt: &HostRuntime) -> Result<(), Ended> {
+    let mut args = env::args(rt)?;
     let _name = args.next();
     let all_read = match (args.next(), args.next()) {
-        (None, _) => play_input(&rt)?,
+        (None, _) => play_input(rt)?,
         (Some(arg), None) => match arg.as_str() {
-            "--help" => show_help(&rt)?,
-            path if path.starts_with('-') => refuse_arguments(&rt)?,
-            path => play_file(&rt, path)?,
+            "--help" => show_help(rt)?,
+            path if path.starts_with('-') => refuse_arguments(rt)?,
+            path => play_file(rt, path)?,
         },
-        _ => refuse_arguments(&rt)?,
+        _ => refuse_arguments(rt)?,
     };
     if all_read {
         Ok(())
     } else {
         Err(Ended::LineUnread)
+    }
+}
+
+fn main(rt: HostRuntime) -> ExitCode {
+    match run(&rt) {
+        Ok(()) => ExitCode::SUCCESS,
+        Err(_) => ExitCode::FAILURE,
     }
 }

@@ -1,4 +1,6 @@
 // Reads a line of a script: what it asks for, or why it cannot be read.
+#![tactic(auto)]
+
 mod commands;
 mod hex;
 mod methods;
