@@ -4,8 +4,7 @@
 .PHONY: run test bench
 
 run:
-	@mkdir -p target
-	@rt check detzorb >target/run.log 2>&1 || { cat target/run.log; exit 1; }
+	@tools/build
 	@target/bin/detzorb scripts/key-chain.txt
 
 test:

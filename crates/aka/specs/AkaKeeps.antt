@@ -1,12 +1,12 @@
 -- What every method keeps, of EAP-AKA', for all cards. Assumes nothing.
-use Rattle.std.specs.Prelude.{◌≡◌, ℕ, ◌+◌, ◌-◌, ◌*◌, ◌<◌, ◌≤◌, Bool, true, false, cond, List, [], ◌∷◌, ◌++◌, map, length, take, drop, replicate, IfErr, Some, None, Ok, Err, Option, Result, MatchResult, nat_le, slice_index, refl}
-use Rattle.std.proofs.Common.{sym, ap, subst, ◌∙◌, arith, lit≤, length-append, length-take, length-drop}
+use Rattle.std.specs.Prelude.{◌≡◌, ℕ, ◌+◌, ◌-◌, ◌*◌, ◌<◌, ◌≤◌, List, [], ◌∷◌, ◌++◌, map, length, take, drop, replicate, IfErr, Some, None, Ok, Err, Option, Result, MatchResult, nat_le, slice_index, refl}
+use Rattle.std.proofs.Common.{subst, ◌∙◌, arith, lit≤, length-append, length-take, length-drop}
 use Rattle.std.specs.Str.{bytes_eq}
 use Rattle.std.proofs.lemmas.List.{length-take-le, length-replicate}
 use Rattle.std.proofs.lemmas.Bool.{cond_both}
 use Rattle.digest.specs.Hmac.{hmac, joined}
 use Rattle.digest.proofs.Lengths.{prf_prime-length}
-use Rattle.keys.specs.Keys.{ck_prime, ik_prime, master_key, k_aut_of, msk_of, emsk_of}
+use Rattle.keys.specs.Keys.{k_aut_of, msk_of, emsk_of}
 use Rattle.nas.specs.Replies.{response_packet}
 use Rattle.method.specs.declared.weighing.Verdict.{Verdict}
 use Rattle.method.specs.declared.weighing.Verdict.TheVariants.{GoOn, Granted, Unproven}
@@ -23,12 +23,12 @@ use Rattle.attributes.specs.Requests.{Asked, ChallengeParts, read_request}
 use Rattle.attributes.proofs.Lies.{request_lies}
 use Rattle.cards.specs.declared.kinds.CardOutcome.{CardOutcome}
 use Rattle.cards.specs.declared.kinds.CardOutcome.TheVariants.{Out, Wrong, Stale, Good}
-use Rattle.cards.specs.Card.{Answered, CardDefinition}
+use Rattle.cards.specs.Card.{CardDefinition}
 use Rattle.aka.specs.declared.fault.AkaFault.{AkaFault}
 use Rattle.aka.specs.declared.fault.AkaFault.TheVariants.{InRequest, IdentityRefused, WrongKdf, WrongNetwork, NoCard, NotSeparated, WrongAutn, StaleSequence, WrongMac}
-use Rattle.aka.specs.Aka.{Decided, unproven, untold, on_identity, prefers_aka_prime, offered, master_key_for, key_block, on_keys, on_master_key, separated, on_outcome, Judged, on_challenge, on_request, judged, aka}
+use Rattle.aka.specs.Aka.{Decided, untold, on_identity, prefers_aka_prime, offered, master_key_for, key_block, on_keys, separated, on_outcome, on_challenge, on_request, judged, aka}
 use Rattle.aka.specs.Faults.{number_of, place_of}
-use Rattle.aka.specs.Replies.{Answer, client_error, authentication_reject, synchronization_failure, identity, challenge, aka_type, kdf_attribute, synchronization_failure_body, identity_body, words_for, challenge_front, challenge_body, mac_with, zeroed_at, body_of}
+use Rattle.aka.specs.Replies.{Answer, client_error, authentication_reject, synchronization_failure, identity, challenge, aka_type, kdf_attribute, words_for, challenge_front, challenge_body, mac_with, zeroed_at, body_of}
 
 pub type_of_a_method : (4 ≤ aka_type) × (aka_type ≤ 253)
 type_of_a_method = (lit≤ tt, lit≤ tt)

@@ -1,5 +1,5 @@
 -- The pass that settles lengths and numbers. Assumes nothing.
-use Rattle.std.proofs.Common.{◌≡◌, List, [], ◌∷◌, Ok, Err, Result, refl}
+use Rattle.std.proofs.Common.{◌≡◌, List, [], Ok, Err, Result, refl}
 use Rattle.nas.specs.Outcomes.{then}
 use Rattle.nas.specs.Walk.{more}
 use Rattle.attributes.specs.declared.fault.AttributeFault.{AttributeFault}

@@ -1,10 +1,10 @@
 -- The values of AT_KDF, kept in an array in their order. Assumes nothing.
-use Rattle.std.proofs.Common.{◌≡◌, ℕ, ◌+◌, ◌<◌, ◌≤◌, [], ◌∷◌, ◌++◌, length, take, set, Some, Ok, Err, sym, ap, ◌∙◌, arith, length-take}
+use Rattle.std.proofs.Common.{◌≡◌, ℕ, ◌+◌, ◌<◌, ◌≤◌, length, take, set, Some, Ok, Err, sym, ap, ◌∙◌, arith, length-take}
 use Rattle.std.proofs.lemmas.List.{take_more_set}
 use Rattle.std.proofs.lemmas.Bool.{cond-true, cond-false, lt-ltb, le-ltb}
 use Rattle.attributes.specs.declared.fault.AttributeFault.TheVariants.{Surplus}
 use Rattle.attributes.specs.declared.request.Kdfs.{Kdfs}
-use Rattle.attributes.specs.Requests.{KdfList, kdf_list, with_one_more}
+use Rattle.attributes.specs.Requests.{kdf_list, with_one_more}
 
 module _ (k : Kdfs) (p v : ℕ) (eight : length k.values ≡ 8) where
   pub none_more : 8 ≤ k.count → Err (Surplus p) ≡ with_one_more (Some (kdf_list k)) p v

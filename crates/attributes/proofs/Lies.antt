@@ -1,24 +1,24 @@
 -- The parts of a request that was read lie in the packet, and so does the attribute at fault. Assumes nothing.
-use Rattle.std.proofs.Common.{◌≡◌, ℕ, ◌+◌, ◌-◌, ◌<◌, ◌≤◌, Bool, true, false, cond, ◌&&◌, eqb, ltb, leb, List, [], ◌∷◌, ◌++◌, length, get_or, IfSome, IfErr, Some, None, Ok, Err, Option, Result, sym, refl, ap, subst, arith, length-append, length-drop, length-take, MatchResult}
-use Rattle.std.proofs.lemmas.Bool.{cond_both, eqb-true, ltb-true, leb-true, and_parts}
+use Rattle.std.proofs.Common.{◌≡◌, ℕ, ◌+◌, ◌<◌, ◌≤◌, ◌&&◌, eqb, ltb, leb, List, [], ◌∷◌, ◌++◌, length, get_or, IfSome, IfErr, Some, None, Ok, Err, Option, Result, sym, subst, arith, length-append, length-drop, length-take, MatchResult}
+use Rattle.std.proofs.lemmas.Bool.{cond_both, eqb-true, ltb-true}
 use Rattle.std.proofs.lemmas.Bool.Decides.{nat_tests}
 use Rattle.nas.specs.Outcomes.{then, raised, IfRead}
 use Rattle.nas.specs.Parts.{Field}
-use Rattle.nas.specs.Walk.{first, first_in}
+use Rattle.nas.specs.Walk.{first_in}
 use Rattle.nas.proofs.Walks.{AllOf, EachOf, walk-each, first-has}
 use Rattle.attributes.specs.declared.attribute.IdentityKind.{IdentityKind}
 use Rattle.attributes.specs.declared.attribute.Subtype.{Subtype}
 use Rattle.attributes.specs.declared.attribute.Subtype.TheVariants.{Challenge as OfChallenge, Identity as OfIdentity}
 use Rattle.attributes.specs.declared.fault.AttributeFault.{AttributeFault}
-use Rattle.attributes.specs.declared.fault.AttributeFault.TheVariants.{Cut, Foreign, WrongLength, Surplus}
+use Rattle.attributes.specs.declared.fault.AttributeFault.TheVariants.{Cut}
 use Rattle.attributes.specs.declared.fault.RequestFault.{RequestFault}
-use Rattle.attributes.specs.declared.fault.RequestFault.TheVariants.{WrongSubtype, InAttribute, Missing}
+use Rattle.attributes.specs.declared.fault.RequestFault.TheVariants.{WrongSubtype, InAttribute}
 use Rattle.attributes.specs.declared.request.IdentityRequest.{IdentityRequest}
 use Rattle.attributes.specs.declared.request.Sixteen.{Sixteen}
 use Rattle.attributes.specs.Attributes.{Attr, rand, autn, mac, kdf_input, kdf, identity_request, skippable, other, field_of, end_of, attribute_of, attribute_at, end_at, field_at, attributes_from, foreign}
 use Rattle.attributes.specs.Faults.{attribute_place, place_of}
 use Rattle.attributes.specs.Inside.{ChallengeInside, Inside}
-use Rattle.attributes.specs.Requests.{KdfList, ChallengeParts, Asked, identity, challenge, Gathered, nothing, sixteen_of, name_of, network_of, kdf_of, identity_of, at_most_once, with_one_more, added, added_all, none_foreign, gathered_from, needed, needed_for_challenge, needed_for, subtype_of, request_of_subtype, read_request}
+use Rattle.attributes.specs.Requests.{KdfList, Asked, Gathered, nothing, sixteen_of, name_of, network_of, kdf_of, identity_of, at_most_once, with_one_more, added, added_all, none_foreign, gathered_from, needed, needed_for_challenge, needed_for, subtype_of, request_of_subtype, read_request}
 use Rattle.attributes.proofs.Within.{whole}
 
 -- the next question keeps what this one has shown

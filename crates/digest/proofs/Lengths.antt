@@ -1,5 +1,5 @@
 -- How long a digest, an HMAC and the output of PRF' are. Assumes nothing.
-use Rattle.std.proofs.Common.{◌≡◌, ℕ, zero, suc, ◌+◌, ◌*◌, List, [], ◌∷◌, ◌++◌, length, take, drop, refl, ap, ◌∙◌, arith, length-append}
+use Rattle.std.proofs.Common.{◌≡◌, ℕ, zero, suc, ◌*◌, List, [], ◌∷◌, ◌++◌, length, take, drop, refl, ap, ◌∙◌, arith, length-append}
 use Rattle.std.proofs.lemmas.List.{length-take-le}
 use Rattle.digest.specs.Hmac.{key_xor, ipad, opad, hmac, prf_block, prf_blocks, prf_prime}
 use Rattle.digest.specs.Sha256.{summed, compress, hash_blocks, word_bytes, pad, hash_value, sha256}

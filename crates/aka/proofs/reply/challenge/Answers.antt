@@ -1,4 +1,4 @@
-use Rattle.std.proofs.Common.{◌≡◌, ℕ, ◌+◌, ◌/◌, ◌%◌, [], ◌∷◌, ◌++◌, length, replicate, sym, refl, ap, ◌∙◌, arith, length-append}
+use Rattle.std.proofs.Common.{◌≡◌, ◌+◌, ◌/◌, ◌%◌, ◌∷◌, ◌++◌, length, replicate, sym, ap, ◌∙◌, arith, length-append}
 use Rattle.nas.specs.Replies.{response_packet}
 use Rattle.aka.specs.Bodies.{body}
 use Rattle.aka.specs.Replies.{aka_type, challenge_body, challenge_front, mac_with}

@@ -1,4 +1,4 @@
-use Rattle.std.proofs.Common.{◌≡◌, [], ◌++◌, take, ap, ◌∙◌, append_assoc}
+use Rattle.std.proofs.Common.{[], take, ap, ◌∙◌, append_assoc}
 use Rattle.digest.specs.Hmac.{hmac}
 use Rattle.aka.specs.Replies.{mac_with}
 use Rattle.aka.proofs.reply.mac_of.Goals as goal
