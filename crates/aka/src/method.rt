@@ -16,7 +16,7 @@ use attributes::{Challenge, Request, read_request};
 use cards::Card;
 use keys::Octets;
 use method::{Method, Subscription, Weighing, identifier_of};
-use nas::Response;
+use nas::write_response;
 
 // A card, and the block that the last granted challenge left.
 #[derive(Clone, Copy)]
@@ -83,11 +83,7 @@ fn write_reply(reply: &Reply, identifier: u8, suci: &Octets<255>, out: &mut [u8;
     ensures bytes { out.new ≡ replied (response_packet identifier 50 (body_of identifier (octets suci.now) (answer reply.now))) out.old }
 {
     let body = reply.body(identifier, suci);
-    let response = Response::OfMethod {
-        eap_type: EAP_TYPE,
-        body: body.as_slice(),
-    };
-    let Some(len) = response.write(identifier, out) else {
+    let Some(len) = write_response(identifier, EAP_TYPE, body.as_slice(), out) else {
         unreachable()
     };
     len

@@ -1,7 +1,7 @@
 -- What the device writes: EAP responses of RFC 3748, and AUTHENTICATION RESPONSE of TS 24.501. Assumes nothing.
 use Rattle.std.specs.Prelude.{ℕ, ◌+◌, ◌/◌, ◌%◌, Bool, cond, ◌&&◌, List, [], ◌∷◌, ◌++◌, length, take, drop, Some, None, Option, nat_le}
 use Rattle.nas.specs.declared.reply.Response.{Response}
-use Rattle.nas.specs.declared.reply.Response.TheVariants.{Identity, Notification, Nak, OfMethod}
+use Rattle.nas.specs.declared.reply.Response.TheVariants.{Identity, Notification, Nak}
 use Rattle.nas.specs.Parts.{cut}
 
 -- the buffer out with xs from place p on
@@ -12,12 +12,11 @@ over p xs out = take p out ++ (xs ++ drop (p + length xs) out)
 abbrev pub response_packet : ℕ → ℕ → List ℕ → List ℕ
 response_packet i t body = 2 ∷ i ∷ (length body + 5) / 256 ∷ (length body + 5) % 256 ∷ t ∷ body
 
--- types 1 Identity, 2 Notification, 3 Nak, and a method's own
+-- types 1 Identity, 2 Notification, 3 Nak
 abbrev pub response : ℕ → Response → List ℕ
 response i (Identity suci) = response_packet i 1 suci.now
 response i Notification = response_packet i 2 []
 response i (Nak wanted) = response_packet i 3 (wanted ∷ [])
-response i (OfMethod t body) = response_packet i t body.now
 
 -- a two-byte length can tell it, and the buffer has room
 abbrev pub fits : List ℕ → List ℕ → Bool

@@ -19,4 +19,4 @@ pub use message::{Message, read};
 pub use name::{NetworkKind, network_kind};
 pub use packet::{Code, Packet};
 pub use part::Part;
-pub use reply::{Response, frame_reply};
+pub use reply::{Response, frame_reply, write_response};

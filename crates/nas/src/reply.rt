@@ -4,14 +4,13 @@ ghost use Rattle.nas.specs.Replies.{framed, framed_length, over, response, respo
 
 use crate::message::{EAP_MESSAGE, EPD, PLAIN};
 
-// The first three are given without the method.
+// The EAP responses that are given without the method.
 #[derive(Clone, Copy)]
 pub enum Response<'a> {
     Identity { suci: &'a [u8] },
     Notification,
     // The EAP type that the device wants in place of the one that it was asked for.
     Nak { wanted: u8 },
-    OfMethod { eap_type: u8, body: &'a [u8] },
 }
 
 const AUTHENTICATION_RESPONSE: u8 = 0x57;
@@ -42,7 +41,9 @@ fn put(out: &mut [u8], at: usize, bytes: &[u8])
     out[at..at + bytes.len()].copy_from_slice(bytes);
 }
 
-fn write_response(identifier: u8, eap_type: u8, body: &[u8], out: &mut [u8]) -> Option<usize>
+// Writes the packet of a response of any type to the start of `out` and tells its length; a packet that does not fit is not
+// written.
+pub fn write_response(identifier: u8, eap_type: u8, body: &[u8], out: &mut [u8]) -> Option<usize>
     ensures answer { result ≡ written_length (response_packet identifier eap_type body.now) out.old }
     ensures bytes { out.new ≡ written (response_packet identifier eap_type body.now) out.old }
 {
@@ -72,9 +73,6 @@ impl Response<'_> {
             Response::Identity { suci } => write_response(identifier, IDENTITY, suci, out),
             Response::Notification => write_response(identifier, NOTIFICATION, &[], out),
             Response::Nak { wanted } => write_response(identifier, NAK, &[*wanted], out),
-            Response::OfMethod { eap_type, body } => write_response(
-                identifier, *eap_type, body, out,
-            ),
         }
     }
 }
