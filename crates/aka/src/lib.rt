@@ -1,12 +1,12 @@
 // EAP-AKA' (RFC 4187, RFC 5448) over any card. No heap.
 #![tactic(auto)]
 
+mod aka_prime;
 mod body;
 mod decision;
 mod fault;
-mod method;
 mod reply;
 mod writing;
 
+pub use aka_prime::AkaPrime;
 pub use fault::AkaFault;
-pub use method::AkaPrime;

@@ -10,7 +10,7 @@ use Rattle.aka.specs.Aka.{Decided, judged}
 use Rattle.aka.specs.AkaMethod.{holding_of}
 use Rattle.aka.specs.Faults.{number_of, place_of}
 use Rattle.aka.specs.Replies.{Answer, answer, body_of, aka_type}
-use Rattle.aka.proofs.method.AkaPrimeMethod.process.Goals as goal
+use Rattle.aka.proofs.aka_prime.AkaPrimeMethod.process.Goals as goal
 
 faults_agree : (v : Verdict AkaFault) → IfUnproven (λ f. (number_of f ≡ number_of f) × (place_of f ≡ place_of f)) v
 faults_agree GoOn = tt
