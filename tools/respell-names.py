@@ -39,7 +39,7 @@ NAMES = """
     keyXor=key_xor kRe=k_re_of kseafOf=kseaf_of layerOf=layer_of left-challenge=left_challenge left-keys=left_keys
     left-outcome=left_outcome left-request=left_request left-separated=left_separated lengthField=length_field
     longEnough=long_enough lvAt=lv_at lvEAt=lv_e_at macOf=mac_of macWith=mac_with masterKey=master_key
-    masterKeyFor=master_key_for messageType=message_type_of more-to-come=more-to_come mskOf=msk_of name-held=name_held
+    masterKeyFor=master_key_for messageType=message_type_of more-to-come=more_to_come mskOf=msk_of name-held=name_held
     nameNumber=name_number neededFor=needed_for neededForChallenge=needed_for_challenge networkKind=network_kind
     networkOf=network_of ngksi-ok=ngksi_ok ngksiOf=ngksi_of nidAfter=nid_after noneForeign=none_foreign
     of_layer-4=of_layer_4 offer-placed=offer_placed ofReject=of_reject ofRequest=of_request ofResult=of_result
@@ -67,8 +67,9 @@ NAMES = """
     zeroCard=zero_card zeroedAt=zeroed_at zeroFilled=zero_filled
 """
 
-# a lemma that would have the name of a definition: file, old name, new name
-LEMMAS = [("crates/keys/proofs/Derived.antt", "two_bytes", "two_bytes-below")]
+# a lemma that would have the name of a definition: file, old name, new name, and the definition's old name, which shows that the
+# file has not been turned
+LEMMAS = [("crates/keys/proofs/Derived.antt", "two_bytes", "two_bytes-below", "twoBytes")]
 
 NAME = re.compile(r"[A-Za-z_][\w'-]*")
 WORD = re.compile(r"[A-Za-z_]\w*")
@@ -83,15 +84,15 @@ def main():
             path = os.path.relpath(os.path.join(folder, file))
             if file.endswith(".antt"):
                 pattern, turned = NAME, dict(names)
-                turned.update({old: new for where, old, new in LEMMAS if where == path})
             elif file.endswith(".rt"):
-                pattern, turned = WORD, words
+                pattern, turned = WORD, dict(words)
             elif file.endswith(".md"):
-                pattern, turned = re.compile(r"(?<=`)[A-Za-z_]\w*(?=`)"), words
+                pattern, turned = re.compile(r"(?<=`)[A-Za-z_]\w*(?=`)"), dict(words)
             else:
                 continue
             with open(path, encoding="utf-8") as f:
                 text = f.read()
+            turned.update({old: new for where, old, new, first in LEMMAS if where == path and first in text})
             new = pattern.sub(lambda m: turned.get(m[0], m[0]), text)
             if new != text:
                 with open(path, "w", encoding="utf-8") as f:

@@ -70,7 +70,7 @@ module _ {X E : Type 0} (part : ℕ → Result X E) (end : ℕ → ℕ) (len : �
 
   -- what a call told
   pub record Gave (p : ℕ) (x : X) : Type 0 where
-    pub more-to_come : p < len
+    pub more_to_come : p < len
     pub is : part p ≡ Ok x
     pub next : (step part end len p).next ≡ end p
 
@@ -82,7 +82,7 @@ module _ {X E : Type 0} (part : ℕ → Result X E) (end : ℕ → ℕ) (len : �
   told-on : (p : ℕ) (r : Result X E) → p < len → part p ≡ r → Told p (step part end len p).found
   told-on p (Ok x) h e =
       let s : step part end len p ≡ record { found = Ok (Some x); next = end p } = step-on p h ∙ ap (λ r. stepped r (end p) p) e in
-      subst (λ t. Told p t.found) (sym s) (record { more-to_come = h; is = e; next = ap (λ t. t.next) s })
+      subst (λ t. Told p t.found) (sym s) (record { more_to_come = h; is = e; next = ap (λ t. t.next) s })
   told-on p (Err f) h e =
       let s : step part end len p ≡ record { found = Err f; next = p } = step-on p h ∙ ap (λ r. stepped r (end p) p) e in
       subst (λ t. Told p t.found) (sym s) (h, e, sym (ap (λ t. t.next) s))
@@ -148,13 +148,13 @@ module _ {X E : Type 0} (part : ℕ → Result X E) (end : ℕ → ℕ) (len : �
     pub rest_read : (p q : ℕ) (r : Result (Option X) E) → r ≡ (step part end len p).found → q ≡ (step part end len p).next → rest p ≡ read_first r (rest q)
     rest_read p q (Ok (Some x)) e m =
         let g = told p (Ok (Some x)) e in
-        rest-on p g.more-to_come ∙ ap (λ r. more r (rest (end p))) g.is ∙ ap (λ k. more (Ok x) (rest k)) (sym (m ∙ g.next))
+        rest-on p g.more_to_come ∙ ap (λ r. more r (rest (end p))) g.is ∙ ap (λ k. more (Ok x) (rest k)) (sym (m ∙ g.next))
     rest_read p q (Ok None) e m = walk-past len p (told p (Ok None) e).0
     rest_read p q (Err f) e m = let g = told p (Err f) e in rest-on p g.0 ∙ ap (λ r. more r (rest (end p))) g.1
 
     -- and there is less to come
     pub falls : (p q : ℕ) (x : X) → Ok (Some x) ≡ (step part end len p).found → q ≡ (step part end len p).next → len - q < len - p
-    falls p q x e m = let g = told p (Ok (Some x)) e in let h = on p x g.is in omega (arith, m ∙ g.next, g.more-to_come, h)
+    falls p q x e m = let g = told p (Ok (Some x)) e in let h = on p x g.is in omega (arith, m ∙ g.next, g.more_to_come, h)
 
     -- a call of the reader that stands at p, and at q afterwards
     pub record Call (p q : ℕ) (r : Result (Option X) E) : Type 0 where
