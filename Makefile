@@ -4,7 +4,7 @@
 .PHONY: run test bench
 
 run:
-	@tools/build
+	@tools/build detzorb
 	@target/bin/detzorb scripts/key-chain.txt
 
 test:

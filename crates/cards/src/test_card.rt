@@ -25,9 +25,9 @@ fn join(first: &[u8], second: &[u8], out: &mut [u8])
     requires { length first.now + length second.now ≡ length out.old }
     ensures { out.new ≡ first.now ++ second.now }
 {
-    let middle = first.len();
-    out[..middle].copy_from_slice(first);
-    out[middle..].copy_from_slice(second);
+    let (front, back) = out.split_at_mut(first.len());
+    front.copy_from_slice(first);
+    back.copy_from_slice(second);
 }
 
 fn sequence_number(s: &[u8; 6]) -> u64

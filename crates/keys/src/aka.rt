@@ -38,18 +38,15 @@ pub(crate) fn part<const N: usize>(bytes: &[u8], at: usize) -> [u8; N]
     out
 }
 
-// A list of bytes, and after it one that is as long.
-fn halves<const N: usize>(first: &[u8], second: &[u8]) -> [u8; N]
-    requires same { length second.now ≡ length first.now }
-    requires whole { N ≡ length first.now + length first.now }
+// One list of bytes after another.
+fn join<const N: usize>(first: &[u8], second: &[u8]) -> [u8; N]
+    requires { length first.now + length second.now ≡ N }
     ensures { result ≡ first.now ++ second.now }
 {
-    let half = first.len();
     let mut out = [0; N];
-    for i in 0..half {
-        out[i] = first[i];
-        out[half + i] = second[i];
-    }
+    let (front, back) = out.split_at_mut(first.len());
+    front.copy_from_slice(first);
+    back.copy_from_slice(second);
     out
 }
 
@@ -57,7 +54,7 @@ fn halves<const N: usize>(first: &[u8], second: &[u8]) -> [u8; N]
 fn pair(first: &[u8; 16], second: &[u8; 16]) -> [u8; 32]
     ensures { result ≡ first.now ++ second.now }
 {
-    halves(first, second)
+    join(first, second)
 }
 
 // CK' and IK' one after the other.
@@ -121,6 +118,6 @@ impl AkaKeys {
     pub fn key_block(&self) -> [u8; 128]
         ensures { result ≡ self.now.msk ++ self.now.emsk }
     {
-        halves(&self.msk, &self.emsk)
+        join(&self.msk, &self.emsk)
     }
 }

@@ -1,9 +1,9 @@
 -- A fault that reading finds is the message's or the packet's own, and not a method's. Assumes nothing.
 use Rattle.std.specs.Prelude.{◌%◌, ◌&&◌, ◌==◌, IfErr, nat_le, slice_index}
 use Rattle.std.specs.Option.{option_map}
-use Rattle.std.proofs.Common.{◌≡◌, ℕ, Bool, true, false, cond, List, length, Some, None, Ok, Err, Option, Result, sym, subst}
+use Rattle.std.proofs.Common.{◌≡◌, ℕ, List, length, Some, None, Ok, Err, Option, Result, sym, subst}
+use Rattle.std.proofs.lemmas.Bool.{cond_both}
 use Rattle.nas.specs.declared.fault.ElementFault.{ElementFault}
-use Rattle.nas.specs.declared.fault.PacketFault.{PacketFault}
 use Rattle.nas.specs.declared.fault.PacketFault.TheVariants.{WrongLength}
 use Rattle.nas.specs.declared.fault.MessageFault.{MessageFault}
 use Rattle.nas.specs.declared.fault.MessageFault.TheVariants.{WrongHeader, InElement, InPacket, NoKeySet, WrongAbba}
@@ -30,10 +30,6 @@ then_own : {F X Y : Type 0} (r : Result X (MessageFault F)) (next : X → Result
 then_own (Ok x) next h n = n x
 then_own (Err f) next h n = record { own = h.own }
 
-cond_own : {F X : Type 0} (b : Bool) (x y : Result X (MessageFault F)) → Own x → Own y → Own (cond b x y)
-cond_own true x y h k = h
-cond_own false x y h k = k
-
 element_own : {F X : Type 0} (r : Result X ElementFault) → Own {F = F} (raised InElement r)
 element_own (Ok x) = ok_own x
 element_own (Err f) = record { own = tt }
@@ -42,14 +38,10 @@ coded_own : {F : Type 0} (o : Option Code) (w : Field) → Own {F = F} (raised I
 coded_own (Some c) w = ok_own _
 coded_own None w = record { own = tt }
 
-cond_packet : {F X : Type 0} (b : Bool) (x y : Result X (PacketFault F)) → Own (raised InPacket x) → Own (raised InPacket y) → Own (raised InPacket (cond b x y))
-cond_packet true x y h k = h
-cond_packet false x y h k = k
-
 packet_own : {F : Type 0} (t : MessageType) (w : Field) → Own {F = F} (raised InPacket (packet_in t w))
 packet_own t w =
     let o = code_in t (slice_index w.octets 0) (length w.octets) in
-    cond_packet (nat_le 4 (length w.octets) && two_bytes w.octets 2 == length w.octets) (coded o w) (Err (WrongLength w.place)) (coded_own o w) (record { own = tt })
+    cond_both (nat_le 4 (length w.octets) && two_bytes w.octets 2 == length w.octets) (coded o w) (Err (WrongLength w.place)) (λ r. Own (raised InPacket r)) (λ _. coded_own o w) (λ _. record { own = tt })
 
 typed_own : {F : Type 0} (o : Option MessageType) (m : List ℕ) → Own {F = F} (typed o m)
 typed_own (Some t) m = element_own (fixed_in t m)
@@ -58,18 +50,18 @@ typed_own None m = record { own = tt }
 mandatory_own : {F : Type 0} (m : List ℕ) → Own {F = F} (mandatory m)
 mandatory_own m =
     let o = message_type_of (slice_index m 2) in
-    cond_own (nat_le 3 (length m) && nat_le (length m) 2048 && slice_index m 0 == 0x7E && slice_index m 1 == 0x00) (typed o m) (Err WrongHeader) (typed_own o m) (record { own = tt })
+    cond_both (nat_le 3 (length m) && nat_le (length m) 2048 && slice_index m 0 == 0x7E && slice_index m 1 == 0x00) (typed o m) (Err WrongHeader) (λ r. Own r) (λ _. typed_own o m) (λ _. record { own = tt })
 
 needed_own : {F X : Type 0} (o : Option X) (n : ℕ) → Own {F = F} (needed o n)
 needed_own (Some x) n = ok_own x
 needed_own None n = record { own = tt }
 
 long_own : {F : Type 0} (o : Option Field) (n : ℕ) → Own {F = F} (long_enough o n)
-long_own (Some a) n = cond_own (nat_le 2 (length a.octets)) (Ok a) (Err (WrongAbba a.place)) (ok_own a) (record { own = tt })
+long_own (Some a) n = cond_both (nat_le 2 (length a.octets)) (Ok a) (Err (WrongAbba a.place)) (λ r. Own r) (λ _. ok_own a) (λ _. record { own = tt })
 long_own None n = record { own = tt }
 
 keys_own : {F : Type 0} (k : ℕ) (o : Option Field) (n : ℕ) → Own {F = F} (for_keys k o n)
-keys_own k o n = cond_own (k % 8 == 7) (Err NoKeySet) (long_enough o n) (record { own = tt }) (long_own o n)
+keys_own k o n = cond_both (k % 8 == 7) (Err NoKeySet) (long_enough o n) (λ r. Own r) (λ _. record { own = tt }) (λ _. long_own o n)
 
 result_own : {F : Type 0} (c : Code) (k : ℕ) (o : Option Elem) (p : EapPacket) (n : ℕ) → Own {F = F} (result_for c k o p n)
 result_own Success k o p n =
