@@ -1,9 +1,12 @@
 -- The definition of EAP-AKA' over a card, with what every method keeps. Assumes nothing.
-use Rattle.std.specs.Prelude.{ℕ, List, Option}
 use Rattle.method.specs.Method.{Definition, Holding}
+use Rattle.method.specs.Subscribers.{subscriber}
+use Rattle.attributes.specs.Requests.{challenge_parts}
 use Rattle.cards.specs.Card.{CardDefinition}
+use Rattle.aka.specs.declared.aka_prime.AkaPrime.{AkaPrime}
+use Rattle.aka.specs.declared.decision.Challenged.{Challenged}
 use Rattle.aka.specs.declared.fault.AkaFault.{AkaFault}
-use Rattle.aka.specs.Aka.{aka}
+use Rattle.aka.specs.Aka.{Judged, aka, offered, on_challenge}
 use Rattle.aka.specs.AkaKeeps as keeps
 use Rattle.aka.specs.Faults.{number_of, place_of}
 use Rattle.aka.specs.Replies.{aka_type}
@@ -27,5 +30,12 @@ aka_definition card = record {
 }
 
 -- a block, and the stage that the card is in
-abbrev pub holding_of : {S : Type 0} → Option (List ℕ) → S → Holding S
-holding_of block stage = record { block = block; stage = stage }
+abbrev pub aka_holding : {C S : Type 0} → (C → S) → AkaPrime C → Holding S
+aka_holding stage_of m = record { block = m.block; stage = stage_of m.card }
+
+-- what is judged of a challenge
+abbrev pub judged_of : (card : CardDefinition) → Holding card.Stage → Challenged → Judged card.Stage
+judged_of card h c =
+    let s = subscriber c.subscription.now in
+    let parts = challenge_parts c.challenge in
+    on_challenge card h c.packet.now s parts (offered s parts)

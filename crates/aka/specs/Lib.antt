@@ -1,6 +1,5 @@
 pub mod Aka
 pub mod AkaKeeps
 pub mod AkaMethod
-pub mod Bodies
 pub mod Faults
 pub mod Replies

@@ -1,18 +1,16 @@
 // EAP-AKA' as a method, written once, over every card.
-ghost use Rattle.std.specs.Prelude.{◌≡◌, ◌+◌, ◌≤◌, length, None};
-ghost use Rattle.keys.specs.Octets.{octets};
+ghost use Rattle.std.specs.Prelude.{◌≡◌, length, None, refl};
 ghost use Rattle.nas.specs.Replies.{response_packet};
 ghost use Rattle.method.specs.Method.{replied};
 ghost use Rattle.method.specs.Subscribers.{subscriber};
-ghost use Rattle.attributes.specs.Requests.{challenge_parts};
-ghost use Rattle.aka.specs.Aka.{decided, judged, offered, on_challenge};
-ghost use Rattle.aka.specs.AkaMethod.{aka_definition, holding_of};
+ghost use Rattle.aka.specs.Aka.{decided, judged};
+ghost use Rattle.aka.specs.AkaMethod.{aka_definition, aka_holding, judged_of};
 ghost use Rattle.aka.specs.Replies.{answer, body_of};
 
-use crate::decision::{Decision, check_offer, on_identity, on_outcome};
+use crate::decision::{Challenged, Decision, on_identity};
 use crate::fault::AkaFault;
 use crate::reply::{EAP_TYPE, Reply};
-use attributes::{Challenge, Request, read_request};
+use attributes::{Request, read_request};
 use cards::Card;
 use keys::Octets;
 use method::{Method, Subscription, Weighing, identifier_of};
@@ -35,41 +33,40 @@ impl<C: Card> AkaPrime<C> {
     }
 
     // Asks the card, if what the network offers is right.
-    fn on_challenge(
-        &mut self,
-        packet: &[u8],
-        subscription: &Subscription,
-        challenge: Challenge<'_>,
-    ) -> Decision
-        requires { challenge.mac.at + 20 ≤ length packet.now }
-        ensures decision { decided result ≡ (on_challenge C.Card.definition (holding_of self.old.block (C.Card.holding self.old.card)) packet.now (subscriber subscription.now) (challenge_parts challenge.entry) (offered (subscriber subscription.now) (challenge_parts challenge.entry))).decision }
-        ensures stage { C.Card.holding self.new.card ≡ (on_challenge C.Card.definition (holding_of self.old.block (C.Card.holding self.old.card)) packet.now (subscriber subscription.now) (challenge_parts challenge.entry) (offered (subscriber subscription.now) (challenge_parts challenge.entry))).stage }
+    fn on_challenge(&mut self, asked: &Challenged<'_>) -> Decision
+        ensures { record { decision = decided result; stage = C.Card.holding self.new.card } ≡ judged_of C.Card.definition (aka_holding C.Card.holding self.old) asked.now }
     {
-        match check_offer(challenge, subscription) {
+        match asked.check_offer() {
             Ok(()) => {
+                let challenge = &asked.challenge;
                 let outcome = self.card.ask(&challenge.rand.bytes, &challenge.autn.bytes);
-                on_outcome(packet, subscription, challenge, outcome)
+                asked.on_outcome(outcome)
             }
             Err(fault) => Decision::unproven(fault, Reply::AuthenticationReject),
         }
     }
 
     fn decide(&mut self, packet: &[u8], subscription: &Subscription) -> Decision
-        ensures decision { decided result ≡ (judged C.Card.definition (holding_of self.old.block (C.Card.holding self.old.card)) packet.now (subscriber subscription.now)).decision }
-        ensures stage { C.Card.holding self.new.card ≡ (judged C.Card.definition (holding_of self.old.block (C.Card.holding self.old.card)) packet.now (subscriber subscription.now)).stage }
+        ensures { record { decision = decided result; stage = C.Card.holding self.new.card } ≡ judged C.Card.definition (aka_holding C.Card.holding self.old) packet.now (subscriber subscription.now) }
     {
         match read_request(packet) {
             Ok(Request::Identity(request)) => on_identity(self.block, request),
-            Ok(Request::Challenge(challenge)) => self.on_challenge(packet, subscription, challenge),
+            Ok(Request::Challenge(challenge)) => {
+                let asked = Challenged {
+                    packet,
+                    subscription,
+                    challenge,
+                };
+                self.on_challenge(&asked)
+            }
             Err(fault) => Decision::unproven(AkaFault::from(fault), Reply::ClientError),
         }
     }
 
     // Decides on a request, and holds the block that the decision leaves.
     fn settle(&mut self, packet: &[u8], subscription: &Subscription) -> Decision
-        ensures decision { decided result ≡ (judged C.Card.definition (holding_of self.old.block (C.Card.holding self.old.card)) packet.now (subscriber subscription.now)).decision }
-        ensures block { self.new.block ≡ (judged C.Card.definition (holding_of self.old.block (C.Card.holding self.old.card)) packet.now (subscriber subscription.now)).decision.block }
-        ensures stage { C.Card.holding self.new.card ≡ (judged C.Card.definition (holding_of self.old.block (C.Card.holding self.old.card)) packet.now (subscriber subscription.now)).stage }
+        ensures judged { record { decision = decided result; stage = C.Card.holding self.new.card } ≡ judged C.Card.definition (aka_holding C.Card.holding self.old) packet.now (subscriber subscription.now) }
+        ensures block { self.new.block ≡ result.block }
     {
         let decision = self.decide(packet, subscription);
         self.block = decision.block;
@@ -77,16 +74,14 @@ impl<C: Card> AkaPrime<C> {
     }
 }
 
-// Writes the reply to the front of the buffer, and tells its length.
+// Writes the reply to the front of the buffer, and tells its length. The scripted method has its own: one for both would have to
+// ask that the body fits.
 fn write_reply(reply: &Reply, identifier: u8, suci: &Octets<255>, out: &mut [u8; 1500]) -> usize
-    ensures len { result ≡ length (response_packet identifier 50 (body_of identifier (octets suci.now) (answer reply.now))) }
-    ensures bytes { out.new ≡ replied (response_packet identifier 50 (body_of identifier (octets suci.now) (answer reply.now))) out.old }
+    ensures len { result ≡ length (response_packet identifier 50 (body_of identifier suci.now (answer reply.now))) }
+    ensures bytes { out.new ≡ replied (response_packet identifier 50 (body_of identifier suci.now (answer reply.now))) out.old }
 {
     let body = reply.body(identifier, suci);
-    let Some(len) = write_response(identifier, EAP_TYPE, body.as_slice(), out) else {
-        unreachable()
-    };
-    len
+    write_response(identifier, EAP_TYPE, body.as_slice(), out).unwrap()
 }
 
 impl<C: Card> Method for AkaPrime<C> {
@@ -94,7 +89,7 @@ impl<C: Card> Method for AkaPrime<C> {
 
     ghost definition = { aka_definition C.Card.definition };
 
-    ghost holding = { λ m. holding_of m.block (C.Card.holding m.card) };
+    ghost holding = { aka_holding C.Card.holding };
 
     fn eap_type(&self) -> u8 {
         EAP_TYPE
@@ -123,4 +118,6 @@ impl<C: Card> Method for AkaPrime<C> {
     fn clear(&mut self) {
         self.block = None;
     }
+
+    ghost tells = { λ _. (refl, refl) };
 }

@@ -1,5 +1,5 @@
 // What EAP-AKA' decides on a request that was read.
-ghost use Rattle.std.specs.Prelude.{◌≡◌, ◌+◌, ◌≤◌, length, take, drop};
+ghost use Rattle.std.specs.Prelude.{◌≡◌, ◌+◌, ◌≤◌, length};
 ghost use Rattle.attributes.specs.Requests.{challenge_parts, kdf_list};
 ghost use Rattle.keys.specs.Keys.{k_aut_of};
 ghost use Rattle.method.specs.Subscribers.{subscriber};
@@ -9,7 +9,7 @@ ghost use Rattle.aka.specs.Replies.{answer, mac_with, zeroed_at};
 use crate::fault::AkaFault;
 use crate::reply::{Reply, mac_of};
 use attributes::{Challenge, IdentityKind, IdentityRequest, Kdfs};
-use cards::{CardOutcome, same_bytes};
+use cards::CardOutcome;
 use keys::{AkaKeys, PrimeKeys};
 use method::{Subscription, Verdict};
 
@@ -50,12 +50,7 @@ impl Decision {
 fn is_untold(held: Option<[u8; 128]>, kind: IdentityKind) -> bool
     ensures { result ≡ untold held kind }
 {
-    match (held, kind) {
-        (Some(_), _) => true,
-        (None, IdentityKind::Permanent) => true,
-        (None, IdentityKind::Any) => false,
-        (None, IdentityKind::FullAuthentication) => false,
-    }
+    held.is_some() || matches!(kind, IdentityKind::Permanent)
 }
 
 pub(crate) fn on_identity(held: Option<[u8; 128]>, request: IdentityRequest) -> Decision
@@ -72,7 +67,7 @@ pub(crate) fn on_identity(held: Option<[u8; 128]>, request: IdentityRequest) -> 
     }
 }
 
-// Whether the function that the network likes best is the one of EAP-AKA'.
+// Whether the first function that the network offers is the one of EAP-AKA'.
 fn prefers_aka_prime(kdfs: &Kdfs) -> bool
     ensures { result ≡ prefers_aka_prime (kdf_list kdfs.now).values }
 {
@@ -80,44 +75,6 @@ fn prefers_aka_prime(kdfs: &Kdfs) -> bool
         [first, ..] => *first == AKA_PRIME,
         [] => false,
     }
-}
-
-// What is asked before the card is.
-pub(crate) fn check_offer(
-    challenge: Challenge<'_>,
-    subscription: &Subscription,
-) -> Result<(), AkaFault>
-    ensures { result ≡ offered (subscriber subscription.now) (challenge_parts challenge.entry) }
-{
-    if !prefers_aka_prime(&challenge.kdfs) {
-        return Err(AkaFault::WrongKdf {
-            at: challenge.kdfs.at,
-        });
-    }
-    if !same_bytes(challenge.network.bytes, subscription.network.as_slice()) {
-        return Err(AkaFault::WrongNetwork {
-            at: challenge.network.at,
-        });
-    }
-    Ok(())
-}
-
-// What stands before and behind the whole value of the AT_MAC at `at`.
-fn around_mac<'a>(packet: &'a [u8], at: usize) -> (&'a [u8], &'a [u8])
-    requires { at + 20 ≤ length packet.now }
-    ensures before { result.0.now ≡ take (at + 2) packet.now }
-    ensures behind { result.1.now ≡ drop (at + 20) packet.now }
-{
-    (&packet[0..at + MAC_HEADER], &packet[at + MAC_END..])
-}
-
-// The MAC over the packet with the whole value of the AT_MAC at `at` zeroed.
-fn mac_over(k_aut: &[u8; 32], packet: &[u8], at: usize) -> [u8; 16]
-    requires { at + 20 ≤ length packet.now }
-    ensures { result ≡ mac_with k_aut.now (zeroed_at packet.now at) }
-{
-    let (before, behind) = around_mac(packet, at);
-    mac_of(k_aut, before, &[0; 18], behind)
 }
 
 // What is used of a log-on's keys.
@@ -144,55 +101,86 @@ fn session_keys(
     }
 }
 
-// Whether AT_MAC is right, once the card has given the keys.
-fn on_keys(packet: &[u8], challenge: Challenge<'_>, res: [u8; 16], keys: &SessionKeys) -> Decision
-    requires { challenge.mac.at + 20 ≤ length packet.now }
-    ensures { decided result ≡ on_keys packet.now (challenge_parts challenge.entry) res keys.now.k_aut keys.now.block }
-{
-    let expected = mac_over(&keys.k_aut, packet, challenge.mac.at as usize);
-    if !same_bytes(&challenge.mac.bytes, &expected) {
-        let fault = AkaFault::WrongMac {
-            at: challenge.mac.at,
-        };
-        return Decision::unproven(fault, Reply::ClientError);
-    }
-    Decision {
-        verdict: Verdict::Granted,
-        reply: Reply::Challenge {
-            res,
-            k_aut: keys.k_aut,
-        },
-        block: Some(keys.block),
-    }
+// A challenge with the packet that it stands in, and the subscription that it is for.
+#[derive(Clone, Copy)]
+pub(crate) struct Challenged<'a> {
+    pub(crate) packet: &'a [u8],
+    pub(crate) subscription: &'a Subscription,
+    pub(crate) challenge: Challenge<'a>,
+    ghost inside: { challenge.mac.at + 20 ≤ length packet.now },
 }
 
-// What is decided once the card has answered.
-pub(crate) fn on_outcome(
-    packet: &[u8],
-    subscription: &Subscription,
-    challenge: Challenge<'_>,
-    outcome: CardOutcome,
-) -> Decision
-    requires { challenge.mac.at + 20 ≤ length packet.now }
-    ensures { decided result ≡ on_outcome packet.now (subscriber subscription.now) (challenge_parts challenge.entry) outcome }
-{
-    let at = challenge.autn.at;
-    match outcome {
-        CardOutcome::Out => Decision::unproven(AkaFault::NoCard, Reply::ClientError),
-        _ if challenge.autn.bytes[AMF_AT] < SEPARATION_BIT => {
-            Decision::unproven(AkaFault::NotSeparated { at }, Reply::AuthenticationReject)
+impl Challenged<'_> {
+    // What is asked before the card is.
+    pub(crate) fn check_offer(&self) -> Result<(), AkaFault>
+        ensures { result ≡ offered (subscriber self.now.subscription.now) (challenge_parts self.now.challenge) }
+    {
+        let challenge = &self.challenge;
+        if !prefers_aka_prime(&challenge.kdfs) {
+            return Err(AkaFault::WrongKdf {
+                at: challenge.kdfs.at,
+            });
         }
-        CardOutcome::Wrong => {
-            Decision::unproven(AkaFault::WrongAutn { at }, Reply::AuthenticationReject)
+        if challenge.network.bytes != self.subscription.network.as_slice() {
+            return Err(AkaFault::WrongNetwork {
+                at: challenge.network.at,
+            });
         }
-        CardOutcome::Stale { auts } => {
-            let kdfs = challenge.kdfs;
-            let reply = Reply::SynchronizationFailure { auts, kdfs };
-            Decision::unproven(AkaFault::StaleSequence { at }, reply)
+        Ok(())
+    }
+
+    // The MAC over the packet with the whole value of AT_MAC zeroed.
+    fn expected_mac(&self, k_aut: &[u8; 32]) -> [u8; 16]
+        ensures { result ≡ mac_with k_aut.now (zeroed_at self.now.packet.now self.now.challenge.mac.at) }
+    {
+        let at = usize::from(self.challenge.mac.at);
+        let before = &self.packet[..at + MAC_HEADER];
+        let behind = &self.packet[at + MAC_END..];
+        mac_of(k_aut, before, &[0; 18], behind)
+    }
+
+    // Whether AT_MAC is right, once the card has given the keys.
+    fn on_keys(&self, res: [u8; 16], keys: &SessionKeys) -> Decision
+        ensures { decided result ≡ on_keys self.now.packet.now (challenge_parts self.now.challenge) res keys.now.k_aut keys.now.block }
+    {
+        let mac = &self.challenge.mac;
+        if mac.bytes != self.expected_mac(&keys.k_aut) {
+            let fault = AkaFault::WrongMac { at: mac.at };
+            return Decision::unproven(fault, Reply::ClientError);
         }
-        CardOutcome::Good { res, ck, ik } => {
-            let keys = session_keys(subscription, &challenge.autn.bytes, &ck, &ik);
-            on_keys(packet, challenge, res, &keys)
+        Decision {
+            verdict: Verdict::Granted,
+            reply: Reply::Challenge {
+                res,
+                k_aut: keys.k_aut,
+            },
+            block: Some(keys.block),
+        }
+    }
+
+    // What is decided once the card has answered.
+    pub(crate) fn on_outcome(&self, outcome: CardOutcome) -> Decision
+        ensures { decided result ≡ on_outcome self.now.packet.now (subscriber self.now.subscription.now) (challenge_parts self.now.challenge) outcome }
+    {
+        let autn = &self.challenge.autn;
+        let at = autn.at;
+        match outcome {
+            CardOutcome::Out => Decision::unproven(AkaFault::NoCard, Reply::ClientError),
+            _ if autn.bytes[AMF_AT] < SEPARATION_BIT => {
+                Decision::unproven(AkaFault::NotSeparated { at }, Reply::AuthenticationReject)
+            }
+            CardOutcome::Wrong => {
+                Decision::unproven(AkaFault::WrongAutn { at }, Reply::AuthenticationReject)
+            }
+            CardOutcome::Stale { auts } => {
+                let kdfs = self.challenge.kdfs;
+                let reply = Reply::SynchronizationFailure { auts, kdfs };
+                Decision::unproven(AkaFault::StaleSequence { at }, reply)
+            }
+            CardOutcome::Good { res, ck, ik } => {
+                let keys = session_keys(self.subscription, &autn.bytes, &ck, &ik);
+                self.on_keys(res, &keys)
+            }
         }
     }
 }

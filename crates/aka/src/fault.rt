@@ -7,7 +7,7 @@ use attributes::RequestFault;
 use nas::MethodFault;
 
 // The place is that of an attribute in the packet.
-#[derive(Clone, Copy)]
+#[derive(Clone, Copy, Debug, PartialEq, Eq)]
 pub enum AkaFault {
     InRequest(RequestFault),
     // A block is held, or the permanent identity is asked for.
@@ -56,14 +56,14 @@ impl MethodFault for AkaFault {
     fn place(&self) -> u16 {
         match self {
             AkaFault::InRequest(fault) => fault.place(),
-            AkaFault::IdentityRefused { at } => *at,
-            AkaFault::WrongKdf { at } => *at,
-            AkaFault::WrongNetwork { at } => *at,
             AkaFault::NoCard => 0,
-            AkaFault::NotSeparated { at } => *at,
-            AkaFault::WrongAutn { at } => *at,
-            AkaFault::StaleSequence { at } => *at,
-            AkaFault::WrongMac { at } => *at,
+            AkaFault::IdentityRefused { at }
+            | AkaFault::WrongKdf { at }
+            | AkaFault::WrongNetwork { at }
+            | AkaFault::NotSeparated { at }
+            | AkaFault::WrongAutn { at }
+            | AkaFault::StaleSequence { at }
+            | AkaFault::WrongMac { at } => *at,
         }
     }
 }

@@ -2,11 +2,9 @@
 #![tactic(auto)]
 
 mod aka_prime;
-mod body;
 mod decision;
 mod fault;
 mod reply;
-mod writing;
 
 pub use aka_prime::AkaPrime;
 pub use fault::AkaFault;

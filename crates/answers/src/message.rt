@@ -1,16 +1,26 @@
 // A message of the network, in words.
 use crate::hex::Hex;
+use crate::in_words::InWords;
 use nas::{
     Code, Element, Elements, Message, MessageFault, MethodFault, NetworkKind, NoMethod, Packet,
     PacketFault, Part, read,
 };
 use std::fmt;
+use std::fmt::Display;
 
 // What the message says, or why it is refused.
-pub(crate) fn show_message<W: fmt::Write>(bytes: &[u8], f: &mut fmt::Formatter<W>) -> fmt::Result {
-    match read::<NoMethod>(bytes) {
-        Ok(message) => show_contents(bytes, message, f),
-        Err(fault) => show_fault(&fault, f),
+impl Display for InWords<&[u8]> {
+    fn fmt<W: fmt::Write>(&self, f: &mut fmt::Formatter<W>) -> fmt::Result {
+        match read::<NoMethod>(self.0) {
+            Ok(message) => {
+                let contents = Contents {
+                    bytes: self.0,
+                    message,
+                };
+                contents.fmt(f)
+            }
+            Err(fault) => InWords(fault).fmt(f),
+        }
     }
 }
 
@@ -25,90 +35,107 @@ fn heading(message: Message<'_>) -> &'static str {
 
 fn packet_of<'a>(message: Message<'a>) -> Option<Packet<'a>> {
     match message {
-        Message::Request { packet, .. } => Some(packet),
-        Message::Success { packet, .. } => Some(packet),
-        Message::Failure { packet } => Some(packet),
+        Message::Request { packet, .. }
+        | Message::Success { packet, .. }
+        | Message::Failure { packet } => Some(packet),
         Message::Reject { packet } => packet,
     }
 }
 
-fn show_contents<W: fmt::Write>(
-    bytes: &[u8],
-    message: Message<'_>,
-    f: &mut fmt::Formatter<W>,
-) -> fmt::Result {
-    let heading = heading(message);
-    let len = bytes.len();
-    writeln!(f, "{heading}, {len} bytes")?;
-    show_key_set(message, f)?;
-    show_elements(bytes, f)?;
-    match packet_of(message) {
-        Some(packet) => show_packet(packet, f),
-        None => f.write_str("  no EAP message"),
+// A message that could be read, and its bytes.
+#[derive(Clone, Copy)]
+struct Contents<'a> {
+    bytes: &'a [u8],
+    message: Message<'a>,
+}
+
+impl Display for Contents<'_> {
+    fn fmt<W: fmt::Write>(&self, f: &mut fmt::Formatter<W>) -> fmt::Result {
+        let heading = heading(self.message);
+        let len = self.bytes.len();
+        let keys = KeySet(self.message);
+        let elements = ElementLines(self.bytes);
+        write!(f, "{heading}, {len} bytes\n{keys}{elements}")?;
+        match packet_of(self.message) {
+            Some(packet) => write!(f, "  {}", InWords(packet)),
+            None => f.write_str("  no EAP message"),
+        }
     }
 }
 
 // What a request and a success say of the keys.
-fn show_key_set<W: fmt::Write>(message: Message<'_>, f: &mut fmt::Formatter<W>) -> fmt::Result {
-    match message {
-        Message::Request { ngksi, abba, .. } => show_key_inputs(ngksi, abba, f),
-        Message::Success { ngksi, abba, .. } => show_key_inputs(ngksi, abba, f),
-        _ => Ok(()),
+#[derive(Clone, Copy)]
+struct KeySet<'a>(Message<'a>);
+
+impl Display for KeySet<'_> {
+    fn fmt<W: fmt::Write>(&self, f: &mut fmt::Formatter<W>) -> fmt::Result {
+        match self.0 {
+            Message::Request { ngksi, abba, .. } | Message::Success { ngksi, abba, .. } => {
+                let Part { at, bytes } = abba;
+                let value = Hex(bytes);
+                writeln!(f, "  ngKSI {ngksi}\n  ABBA at {at}: {value}")
+            }
+            Message::Failure { .. } | Message::Reject { .. } => Ok(()),
+        }
     }
 }
 
-fn show_key_inputs<W: fmt::Write>(
-    ngksi: u8,
-    abba: Part<'_>,
-    f: &mut fmt::Formatter<W>,
-) -> fmt::Result {
-    let at = abba.at;
-    let value = Hex(abba.bytes);
-    writeln!(f, "  ngKSI {ngksi}")?;
-    writeln!(f, "  ABBA at {at}: {value}")
-}
+// The elements of the message that these bytes are, a line for each.
+#[derive(Clone, Copy)]
+struct ElementLines<'a>(&'a [u8]);
 
-// No message has more elements than bytes.
-fn show_elements<W: fmt::Write>(bytes: &[u8], f: &mut fmt::Formatter<W>) -> fmt::Result {
-    let Ok(mut elements) = Elements::of_message::<NoMethod>(bytes) else {
-        return Ok(());
-    };
-    for _ in bytes {
-        let Ok(Some(element)) = elements.next() else {
-            break;
+impl Display for ElementLines<'_> {
+    fn fmt<W: fmt::Write>(&self, f: &mut fmt::Formatter<W>) -> fmt::Result {
+        let Ok(mut elements) = Elements::of_message::<NoMethod>(self.0) else {
+            return Ok(());
         };
-        show_element(element, f)?;
+        while let Ok(Some(element)) = elements.next() {
+            writeln!(f, "  {}", InWords(element))?;
+        }
+        Ok(())
     }
-    Ok(())
 }
 
-fn show_element<W: fmt::Write>(element: Element<'_>, f: &mut fmt::Formatter<W>) -> fmt::Result {
-    let (tag, at, header, len) = match element {
-        Element::OneOctet { tag, at } => (tag, at, 1, 0),
-        Element::Rand { at, value } => (0x21, at, 1, value.len()),
-        Element::Tlv { tag, at, value } => (tag, at, 2, value.len()),
-        Element::TlvE { tag, at, value } => (tag, at, 3, value.len()),
-    };
-    let from = at.saturating_add(header);
-    writeln!(f, "  element {tag:02x} at {at}: {len} bytes at {from}")
+impl Display for InWords<Element<'_>> {
+    fn fmt<W: fmt::Write>(&self, f: &mut fmt::Formatter<W>) -> fmt::Result {
+        let (tag, at, header, len) = match self.0 {
+            Element::OneOctet { tag, at } => (tag, at, 1, 0),
+            Element::Rand { at, value } => (0x21, at, 1, value.len()),
+            Element::Tlv { tag, at, value } => (tag, at, 2, value.len()),
+            Element::TlvE { tag, at, value } => (tag, at, 3, value.len()),
+        };
+        let from = at.saturating_add(header);
+        write!(f, "element {tag:02x} at {at}: {len} bytes at {from}")
+    }
 }
 
-fn show_packet<W: fmt::Write>(packet: Packet<'_>, f: &mut fmt::Formatter<W>) -> fmt::Result {
-    let code = match packet.code {
-        Code::Request => "request",
-        Code::Success => "success",
-        Code::Failure => "failure",
-    };
-    let identifier = packet.identifier;
-    let len = packet.part.bytes.len();
-    let at = packet.part.at;
-    write!(
-        f,
-        "  EAP {code}, identifier {identifier}, {len} bytes at {at}"
-    )?;
-    match packet.part.bytes {
-        [_, _, _, _, eap_type, ..] => write!(f, ", type {eap_type}"),
-        _ => Ok(()),
+impl Display for InWords<Code> {
+    fn fmt<W: fmt::Write>(&self, f: &mut fmt::Formatter<W>) -> fmt::Result {
+        f.write_str(match self.0 {
+            Code::Request => "request",
+            Code::Success => "success",
+            Code::Failure => "failure",
+        })
+    }
+}
+
+impl Display for InWords<Packet<'_>> {
+    fn fmt<W: fmt::Write>(&self, f: &mut fmt::Formatter<W>) -> fmt::Result {
+        let Packet {
+            code,
+            identifier,
+            part: Part { at, bytes },
+        } = self.0;
+        let code = InWords(code);
+        let len = bytes.len();
+        write!(
+            f,
+            "EAP {code}, identifier {identifier}, {len} bytes at {at}"
+        )?;
+        match bytes {
+            [_, _, _, _, eap_type, ..] => write!(f, ", type {eap_type}"),
+            _ => Ok(()),
+        }
     }
 }
 
@@ -128,38 +155,36 @@ fn reason(fault: &MessageFault<NoMethod>) -> &'static str {
     }
 }
 
-fn layer_name(layer: u8) -> &'static str {
-    match layer {
-        2 => "message",
-        3 => "EAP packet",
-        _ => "EAP method",
+fn layer_name(fault: &MessageFault<NoMethod>) -> &'static str {
+    match fault {
+        MessageFault::InPacket(PacketFault::InMethod { .. }) => "EAP method",
+        MessageFault::InPacket(_) => "EAP packet",
+        _ => "message",
     }
 }
 
-fn show_fault<W: fmt::Write>(
-    fault: &MessageFault<NoMethod>,
-    f: &mut fmt::Formatter<W>,
-) -> fmt::Result {
-    let number = fault.number();
-    let layer = fault.layer();
-    let place = fault.place();
-    let name = layer_name(layer);
-    let reason = reason(fault);
-    write!(
-        f,
-        "refused: number {number}, layer {layer} ({name}), place {place}: {reason}"
-    )
+impl Display for InWords<MessageFault<NoMethod>> {
+    fn fmt<W: fmt::Write>(&self, f: &mut fmt::Formatter<W>) -> fmt::Result {
+        let fault = &self.0;
+        let number = fault.number();
+        let layer = fault.layer();
+        let name = layer_name(fault);
+        let place = fault.place();
+        let reason = reason(fault);
+        write!(
+            f,
+            "refused: number {number}, layer {layer} ({name}), place {place}: {reason}"
+        )
+    }
 }
 
-pub(crate) fn show_network<W: fmt::Write>(
-    kind: Option<NetworkKind>,
-    f: &mut fmt::Formatter<W>,
-) -> fmt::Result {
-    match kind {
-        Some(NetworkKind::Public) => f.write_str("serving network name of a public network"),
-        Some(NetworkKind::Private) => f.write_str("serving network name of a private network"),
-        None => f.write_str(
-            "refused: number 2, layer 1 (unit), place 0: not a serving network name",
-        ),
+// What was found of a text that may be a serving network name.
+impl Display for InWords<Option<NetworkKind>> {
+    fn fmt<W: fmt::Write>(&self, f: &mut fmt::Formatter<W>) -> fmt::Result {
+        f.write_str(match self.0 {
+            Some(NetworkKind::Public) => "serving network name of a public network",
+            Some(NetworkKind::Private) => "serving network name of a private network",
+            None => "refused: number 2, layer 1 (unit), place 0: not a serving network name",
+        })
     }
 }

@@ -1,73 +1,58 @@
 // What a method found of a packet, in words.
 use crate::hex::Hex;
+use crate::in_words::InWords;
 use method::Verdict;
 use std::fmt;
+use std::fmt::Display;
 
-// Why a request is unproven: the number, and the place in the packet.
+// Why a request is unproven: the number, the place in the packet, and what that means.
 #[derive(Clone, Copy)]
 pub struct Reason {
     pub number: u8,
     pub place: u16,
+    pub text: &'static str,
 }
 
-#[derive(Clone, Copy)]
+impl Display for Reason {
+    fn fmt<W: fmt::Write>(&self, f: &mut fmt::Formatter<W>) -> fmt::Result {
+        let Reason {
+            number,
+            place,
+            text,
+        } = self;
+        write!(
+            f,
+            "number {number}, layer 4 (EAP method), place {place}: {text}"
+        )
+    }
+}
+
+#[derive(Drop)]
 pub struct Processed {
     pub verdict: Verdict<Reason>,
-    // The reply stands in front; what follows it means nothing.
-    pub buffer: [u8; 1500],
-    pub reply_len: usize,
+    pub reply: Vec<u8>,
     pub holds_block: bool,
 }
 
-fn reason_text(number: u8) -> &'static str {
-    match number {
-        21 => "neither a challenge nor an identity request",
-        22 => "an attribute is cut or has the length zero",
-        23 => "an attribute is none of the subtype",
-        24 => "an attribute is missing, surplus or of a wrong length",
-        25 => "the identity asked for is not told",
-        26 => "the first AT_KDF is not 1",
-        27 => "the network name is not the SNN",
-        28 => "no card is in",
-        29 => "the separation bit is not set",
-        30 => "the card does not accept the MAC of AUTN",
-        31 => "the card does not accept the sequence number",
-        32 => "AT_MAC is wrong",
-        33 => "no row says go on or granted",
-        _ => "the key block is not wholly inside the store",
+impl Display for InWords<Verdict<Reason>> {
+    fn fmt<W: fmt::Write>(&self, f: &mut fmt::Formatter<W>) -> fmt::Result {
+        match self.0 {
+            Verdict::GoOn => f.write_str("verdict 1 (go on)"),
+            Verdict::Granted => f.write_str("verdict 2 (granted)"),
+            Verdict::Unproven(reason) => write!(f, "verdict 3 (unproven): {reason}"),
+        }
     }
 }
 
-fn show_reason<W: fmt::Write>(reason: Reason, f: &mut fmt::Formatter<W>) -> fmt::Result {
-    let number = reason.number;
-    let place = reason.place;
-    let text = reason_text(number);
-    write!(
-        f,
-        "verdict 3 (unproven): number {number}, layer 4 (EAP method), place {place}: {text}"
-    )
-}
-
-fn show_verdict<W: fmt::Write>(verdict: Verdict<Reason>, f: &mut fmt::Formatter<W>) -> fmt::Result {
-    match verdict {
-        Verdict::GoOn => f.write_str("verdict 1 (go on)"),
-        Verdict::Granted => f.write_str("verdict 2 (granted)"),
-        Verdict::Unproven(reason) => show_reason(reason, f),
-    }
-}
-
-pub(crate) fn show_processed<W: fmt::Write>(
-    processed: &Processed,
-    f: &mut fmt::Formatter<W>,
-) -> fmt::Result {
-    show_verdict(processed.verdict, f)?;
-    // A reply is never longer than the buffer.
-    let len = processed.reply_len.min(1500);
-    let reply = Hex(&processed.buffer[0..len]);
-    write!(f, "\n  reply = {reply}\n  ")?;
-    if processed.holds_block {
-        f.write_str("block held")
-    } else {
-        f.write_str("no block held")
+impl Display for Processed {
+    fn fmt<W: fmt::Write>(&self, f: &mut fmt::Formatter<W>) -> fmt::Result {
+        let verdict = InWords(self.verdict);
+        let reply = Hex(self.reply.as_slice());
+        let held = if self.holds_block {
+            "block"
+        } else {
+            "no block"
+        };
+        write!(f, "{verdict}\n  reply = {reply}\n  {held} held")
     }
 }

@@ -1,4 +1,3 @@
 pub mod Gathering
-pub mod Kept
 pub mod Lies
 pub mod Within

@@ -5,7 +5,8 @@ use Rattle.std.proofs.lemmas.Bool.Decides.{nat_tests}
 use Rattle.nas.specs.Outcomes.{then, raised, IfRead}
 use Rattle.nas.specs.Parts.{Field}
 use Rattle.nas.specs.Walk.{first_in}
-use Rattle.nas.proofs.Walks.{AllOf, EachOf, walk-each, first-has}
+use Rattle.std.specs.List.{AllByRecursion}
+use Rattle.nas.proofs.Walks.{EachOf, walk-each, first-has}
 use Rattle.attributes.specs.declared.attribute.IdentityKind.{IdentityKind}
 use Rattle.attributes.specs.declared.attribute.Subtype.{Subtype}
 use Rattle.attributes.specs.declared.attribute.Subtype.TheVariants.{Challenge as OfChallenge, Identity as OfIdentity}
@@ -124,7 +125,7 @@ module _ (n : ℕ) where
   abbrev Lies : Attr → Type 0
   Lies a = end_of a ≤ n
 
-  all_held : (g : Gathered) (l : List Attr) → Held g → AllOf Lies l → MatchResult (added_all g l) Held Placed
+  all_held : (g : Gathered) (l : List Attr) → Held g → AllByRecursion Lies l → MatchResult (added_all g l) Held Placed
   all_held g [] h lies = h
   all_held g (a ∷ l) h lies = then-cases Held Held Placed (added g a) _ (added-held g a h lies.0) (λ k j. all_held k l j lies.1)
 
@@ -180,7 +181,7 @@ fault_lies : (p : List ℕ) (q : ℕ) (f : AttributeFault) → q < length p → 
 fault_lies p q f lt e =
     let b = leb 1 (get_or p (q + 1) 0) && leb (end_at p q) (length p) in
     cond_both b (Ok (attribute_of (get_or p q 0) (field_at p q))) (Err (Cut q)) (λ (r : Result Attr AttributeFault). r ≡ Err f → attribute_place f < length p)
-    (λ _ g. absurd (let z : ◌≡◌ {A = ℕ} 0 1 = cc in omega arith))
+    (λ _ g. cc)
     (λ _ g. let is : Cut q ≡ f = cc in subst (λ h. attribute_place h < length p) is lt) e
 
 attributes_lie : (p : List ℕ) (q : ℕ) → EachOf (λ a. end_of a ≤ length p) (λ f. attribute_place f < length p) (attributes_from p q)

@@ -1,7 +1,9 @@
 -- The attributes of a request, by their places in the packet (RFC 4187, section 8.1). Assumes nothing.
-use Rattle.std.specs.Prelude.{ℕ, ◌+◌, ◌-◌, ◌*◌, Bool, true, false, cond, ◌&&◌, List, length, Ok, Err, Result, ◌==◌, nat_le, slice_index}
+use Rattle.std.specs.Prelude.{◌≡◌, ℕ, ◌+◌, ◌-◌, ◌*◌, ◌<◌, Bool, true, false, cond, ◌&&◌, List, length, Ok, Err, Result, ◌==◌, nat_le, slice_index}
+use Rattle.std.proofs.Common.{arith}
+use Rattle.std.proofs.lemmas.Bool.{and_parts, cond_both, leb-true}
 use Rattle.nas.specs.Parts.{Field, field, cut}
-use Rattle.nas.specs.Walk.{walk, step, Step}
+use Rattle.nas.specs.Walk.{walk}
 use Rattle.attributes.specs.declared.attribute.Attribute.{Attribute}
 use Rattle.attributes.specs.declared.attribute.Attribute.TheVariants.{Rand, Autn, Mac, KdfInput, Kdf, IdentityRequest, Skippable, Other}
 use Rattle.attributes.specs.declared.attribute.IdentityKind.{IdentityKind}
@@ -81,9 +83,6 @@ attribute_at p q =
 abbrev pub attributes_from : List ℕ → ℕ → Result (List Attr) AttributeFault
 attributes_from p q = walk (attribute_at p) (end_at p) (length p) (length p) q
 
-abbrev pub attribute_step : List ℕ → ℕ → Step Attr AttributeFault
-attribute_step p q = step (attribute_at p) (end_at p) (length p) q
-
 -- neither one of this subtype nor one that may be passed over
 abbrev pub foreign : Subtype → Attr → Bool
 foreign s (skippable f) = false
@@ -100,3 +99,11 @@ foreign Challenge (kdf_input f) = false
 foreign Identity (kdf_input f) = true
 foreign Challenge (kdf f) = false
 foreign Identity (kdf f) = true
+
+-- no attribute is empty
+pub goes_on : (p : List ℕ) (q : ℕ) (a : Attr) → attribute_at p q ≡ Ok a → q < end_at p q
+goes_on p q a =
+    cond_both (nat_le 1 (slice_index p (q + 1)) && nat_le (end_at p q) (length p))
+    (Ok (attribute_of (slice_index p q) (field_at p q))) (Err (Cut q)) (λ r. r ≡ Ok a → q < end_at p q)
+    (λ t _. let some = leb-true 1 (slice_index p (q + 1)) (and_parts _ _ t).0 in omega (arith, some))
+    (λ _ e. cc)

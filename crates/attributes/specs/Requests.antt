@@ -14,7 +14,7 @@ use Rattle.attributes.specs.declared.fault.RequestFault.TheVariants.{WrongSubtyp
 use Rattle.attributes.specs.declared.request.Challenge.{Challenge}
 use Rattle.attributes.specs.declared.request.Found.{Found}
 use Rattle.attributes.specs.declared.request.IdentityRequest.{IdentityRequest}
-use Rattle.attributes.specs.declared.request.Kdfs.{Kdfs}
+use Rattle.attributes.specs.declared.kdfs.Kdfs.{Kdfs}
 use Rattle.attributes.specs.declared.request.Request.{Request}
 use Rattle.attributes.specs.declared.request.Request.TheVariants.{Identity, Challenge as IsChallenge}
 use Rattle.attributes.specs.declared.request.Sixteen.{Sixteen}
@@ -62,6 +62,10 @@ abbrev pub nothing : Gathered
 nothing = record { rand = None; autn = None; mac = None; network = None; kdfs = None; identity = None }
 
 -- ---- each attribute in its right length
+
+-- the value of the attribute at place p, if it has just n bytes
+abbrev pub exactly : ℕ → ℕ → List ℕ → Result (List ℕ) AttributeFault
+exactly n p v = cond (length v == n) (Ok v) (Err (WrongLength p))
 
 -- AT_RAND, AT_AUTN and AT_MAC have five words: two reserved bytes, and sixteen
 abbrev pub sixteen_of : Field → Result Sixteen AttributeFault

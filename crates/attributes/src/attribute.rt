@@ -1,21 +1,26 @@
 // The attributes of a request (RFC 4187, RFC 5448): each borrows its value from the packet and knows its place.
-ghost use Rattle.std.specs.Prelude.{◌≡◌, ◌<◌, ◌≤◌, length};
-ghost use Rattle.nas.specs.Outcomes.{IfRead, seen};
+ghost use Rattle.std.specs.Prelude.{◌≡◌};
+ghost use Rattle.std.specs.Result.{result_ok};
 ghost use Rattle.nas.specs.Parts.{field};
-ghost use Rattle.attributes.specs.Attributes.{attribute, attribute_at, attribute_of, end_at, end_of, field_of, foreign};
+ghost use Rattle.attributes.specs.Attributes.{Attr, attribute, attribute_at, attribute_of, end_at, field_of, foreign, goes_on};
+ghost use Rattle.attributes.specs.Requests.{subtype_of};
 
 use crate::fault::AttributeFault;
-use nas::Part;
+use nas::{Part, Readable};
 
 // What a request is about: the subtypes that the device answers.
-#[derive(Clone, Copy)]
+#[derive(Clone, Copy, Debug, PartialEq, Eq)]
 pub enum Subtype {
     Challenge,
     Identity,
 }
 
+// A byte that stands for none of the subtypes.
+#[derive(Clone, Copy, Debug, PartialEq, Eq)]
+pub struct UnknownSubtype(());
+
 // Which identity is asked for.
-#[derive(Clone, Copy)]
+#[derive(Clone, Copy, Debug, PartialEq, Eq)]
 pub enum IdentityKind {
     Permanent,
     Any,
@@ -23,7 +28,7 @@ pub enum IdentityKind {
 }
 
 // The part is the value, behind type and length, with the place of the attribute's first byte.
-#[derive(Clone, Copy)]
+#[derive(Clone, Copy, Debug, PartialEq, Eq)]
 pub enum Attribute<'a> {
     Rand(Part<'a>),
     Autn(Part<'a>),
@@ -63,6 +68,20 @@ const HEADER_LEN: usize = 2;
 // The length counts words of four bytes.
 const WORD: usize = 4;
 
+impl TryFrom<u8> for Subtype {
+    type Error = UnknownSubtype;
+
+    ghost try_from_gives = { λ byte r. result_ok r ≡ subtype_of byte };
+
+    fn try_from(byte: u8) -> Result<Subtype, UnknownSubtype> {
+        match byte {
+            1 => Ok(Subtype::Challenge),
+            5 => Ok(Subtype::Identity),
+            _ => Err(UnknownSubtype(())),
+        }
+    }
+}
+
 fn attribute_of<'a>(kind: u8, part: Part<'a>) -> Attribute<'a>
     ensures { attribute result ≡ attribute_of kind (field part.entry) }
 {
@@ -80,28 +99,48 @@ fn attribute_of<'a>(kind: u8, part: Part<'a>) -> Attribute<'a>
     }
 }
 
-// The attribute that begins at `at`, if all of it lies inside the packet.
-pub(crate) fn attribute_at<'a>(packet: &'a [u8], at: usize) -> Result<Attribute<'a>, AttributeFault>
-    requires { (at < length packet.now) × (length packet.now ≤ 65535) }
-    ensures value { seen attribute result ≡ attribute_at packet.now at }
-    ensures end { IfRead (λ a. end_of (attribute a) ≡ end_at packet.now at) result }
-    ensures inside { IfRead (λ a. end_of (attribute a) ≤ length packet.now) result }
-{
-    let left = packet.len() - at;
-    let cut = Err(AttributeFault::Cut { at: at as u16 });
-    if left < HEADER_LEN {
-        return cut;
+impl<'a> Readable<'a> for Attribute<'a> {
+    type Fault = AttributeFault;
+
+    // The subtype to which the attribute is foreign.
+    type Kind = Subtype;
+
+    ghost Meaning = { Attr };
+
+    ghost meaning = { attribute };
+
+    ghost part_at = { attribute_at };
+
+    ghost end_at = { end_at };
+
+    ghost goes_on = { goes_on };
+
+    ghost is_of = { foreign };
+
+    fn read_at(packet: &'a [u8], at: u16) -> Result<(Attribute<'a>, usize), AttributeFault> {
+        let cut = AttributeFault::Cut { at };
+        let start = usize::from(at);
+        let Some([kind, words, rest @ ..]) = packet.get(start..) else {
+            return Err(cut);
+        };
+        let len = (WORD * usize::from(*words))
+            .checked_sub(HEADER_LEN)
+            .ok_or(cut)?;
+        let bytes = rest.get(..len).ok_or(cut)?;
+        let part = Part { at, bytes };
+        Ok((attribute_of(*kind, part), start + HEADER_LEN + len))
     }
-    let size = WORD * packet[at + 1] as usize;
-    if size < HEADER_LEN || left < size {
-        return cut;
+
+    // Whether it is neither one of this subtype nor one that may be passed over.
+    fn is_of(&self, subtype: Subtype) -> bool {
+        match (self, subtype) {
+            (Attribute::Skippable(_), _) | (Attribute::IdentityRequest(..), Subtype::Identity) =>
+                false,
+            (Attribute::Other(_), _) | (Attribute::IdentityRequest(..), Subtype::Challenge) => true,
+            (_, Subtype::Identity) => true,
+            (_, Subtype::Challenge) => false,
+        }
     }
-    let bytes = &packet[at + HEADER_LEN..at + size];
-    let part = Part {
-        at: at as u16,
-        bytes,
-    };
-    Ok(attribute_of(packet[at], part))
 }
 
 impl<'a> Attribute<'a> {
@@ -109,37 +148,14 @@ impl<'a> Attribute<'a> {
         ensures { field result ≡ field_of (attribute self.now) }
     {
         match self {
-            Attribute::Rand(part) => *part,
-            Attribute::Autn(part) => *part,
-            Attribute::Mac(part) => *part,
-            Attribute::KdfInput(part) => *part,
-            Attribute::Kdf(part) => *part,
-            Attribute::IdentityRequest(_, part) => *part,
-            Attribute::Skippable(part) => *part,
-            Attribute::Other(part) => *part,
-        }
-    }
-
-    // The place of the byte after it.
-    pub(crate) fn end(&self) -> usize
-        requires { end_of (attribute self.now) ≤ 65535 }
-        ensures { result ≡ end_of (attribute self.now) }
-    {
-        let part = self.part();
-        part.at as usize + HEADER_LEN + part.bytes.len()
-    }
-
-    // Whether it is neither one of this subtype nor one that may be passed over.
-    pub(crate) fn is_foreign(&self, subtype: Subtype) -> bool
-        ensures { result ≡ foreign subtype (attribute self.now) }
-    {
-        match (self, subtype) {
-            (Attribute::Skippable(_), _) => false,
-            (Attribute::Other(_), _) => true,
-            (Attribute::IdentityRequest(..), Subtype::Identity) => false,
-            (Attribute::IdentityRequest(..), Subtype::Challenge) => true,
-            (_, Subtype::Identity) => true,
-            (_, Subtype::Challenge) => false,
+            Attribute::Rand(part)
+            | Attribute::Autn(part)
+            | Attribute::Mac(part)
+            | Attribute::KdfInput(part)
+            | Attribute::Kdf(part)
+            | Attribute::IdentityRequest(_, part)
+            | Attribute::Skippable(part)
+            | Attribute::Other(part) => *part,
         }
     }
 }

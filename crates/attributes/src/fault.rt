@@ -1,10 +1,12 @@
 // What can be wrong with a request of EAP-AKA': the fault of an attribute stands inside the fault of the request.
 ghost use Rattle.std.specs.Prelude.{◌≡◌};
-ghost use Rattle.attributes.specs.declared.fault.RequestFault.TheVariants.{InAttribute};
-ghost use Rattle.attributes.specs.Faults.{number_of, place_of};
+ghost use Rattle.attributes.specs.declared.fault.RequestFault.TheVariants.{InAttribute, WrongSubtype};
+ghost use Rattle.attributes.specs.Faults.{attribute_place, number_of, place_of};
+
+use crate::attribute::UnknownSubtype;
 
 // The place is that of the attribute's first byte in the packet.
-#[derive(Clone, Copy)]
+#[derive(Clone, Copy, Debug, PartialEq, Eq)]
 pub enum AttributeFault {
     // It has no length, a length of zero, or passes the packet's end.
     Cut { at: u16 },
@@ -15,7 +17,7 @@ pub enum AttributeFault {
     Surplus { at: u16 },
 }
 
-#[derive(Clone, Copy)]
+#[derive(Clone, Copy, Debug, PartialEq, Eq)]
 pub enum RequestFault {
     // Not 8 to 65,535 bytes with a subtype that the device answers.
     WrongSubtype,
@@ -24,11 +26,32 @@ pub enum RequestFault {
     Missing,
 }
 
+impl From<UnknownSubtype> for RequestFault {
+    ghost from_gives = { λ _ r. r ≡ WrongSubtype };
+
+    fn from(_: UnknownSubtype) -> RequestFault {
+        RequestFault::WrongSubtype
+    }
+}
+
 impl From<AttributeFault> for RequestFault {
     ghost from_gives = { λ f r. r ≡ InAttribute f };
 
     fn from(f: AttributeFault) -> RequestFault {
         RequestFault::InAttribute(f)
+    }
+}
+
+impl AttributeFault {
+    fn place(&self) -> u16
+        ensures { result ≡ attribute_place self.now }
+    {
+        match self {
+            AttributeFault::Cut { at }
+            | AttributeFault::Foreign { at }
+            | AttributeFault::WrongLength { at }
+            | AttributeFault::Surplus { at } => *at,
+        }
     }
 }
 
@@ -40,9 +63,10 @@ impl RequestFault {
             RequestFault::WrongSubtype => 21,
             RequestFault::InAttribute(AttributeFault::Cut { .. }) => 22,
             RequestFault::InAttribute(AttributeFault::Foreign { .. }) => 23,
-            RequestFault::InAttribute(AttributeFault::WrongLength { .. }) => 24,
-            RequestFault::InAttribute(AttributeFault::Surplus { .. }) => 24,
-            RequestFault::Missing => 24,
+            RequestFault::InAttribute(
+                AttributeFault::WrongLength { .. } | AttributeFault::Surplus { .. },
+            )
+            | RequestFault::Missing => 24,
         }
     }
 
@@ -51,12 +75,8 @@ impl RequestFault {
         ensures { result ≡ place_of self.now }
     {
         match self {
-            RequestFault::WrongSubtype => 0,
-            RequestFault::InAttribute(AttributeFault::Cut { at }) => *at,
-            RequestFault::InAttribute(AttributeFault::Foreign { at }) => *at,
-            RequestFault::InAttribute(AttributeFault::WrongLength { at }) => *at,
-            RequestFault::InAttribute(AttributeFault::Surplus { at }) => *at,
-            RequestFault::Missing => 0,
+            RequestFault::WrongSubtype | RequestFault::Missing => 0,
+            RequestFault::InAttribute(fault) => fault.place(),
         }
     }
 }

@@ -4,10 +4,11 @@
 mod attribute;
 mod fault;
 mod gather;
-mod reader;
+mod kdfs;
 mod request;
 
-pub use attribute::{Attribute, IdentityKind, Subtype};
+pub use attribute::{Attribute, IdentityKind, Subtype, UnknownSubtype};
 pub use fault::{AttributeFault, RequestFault};
 pub use gather::read_request;
-pub use request::{Challenge, IdentityRequest, Kdfs, Request, Sixteen};
+pub use kdfs::Kdfs;
+pub use request::{Challenge, IdentityRequest, Request, Sixteen};

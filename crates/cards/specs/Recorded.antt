@@ -1,7 +1,8 @@
 -- The recorded card: the first row with this RAND and AUTN; wrong if there is none; out if there are no rows. Assumes nothing.
-use Rattle.std.specs.Prelude.{ℕ, Bool, ◌&&◌, List, [], ◌∷◌, Some, None, Option}
+use Rattle.std.specs.Prelude.{ℕ, Bool, ◌&&◌, List, [], ◌∷◌, Option}
 use Rattle.std.specs.Str.{bytes_eq}
-use Rattle.nas.specs.Walk.{first_in}
+use Rattle.std.specs.List.{find}
+use Rattle.std.specs.Option.{option_map, unwrap_or}
 use Rattle.cards.specs.declared.kinds.CardOutcome.{CardOutcome}
 use Rattle.cards.specs.declared.kinds.CardOutcome.TheVariants.{Out, Wrong}
 use Rattle.cards.specs.declared.kinds.CardRow.{CardRow}
@@ -13,11 +14,10 @@ is_for r rand autn = bytes_eq r.rand rand && bytes_eq r.autn autn
 
 -- wrong if no row is for the challenge
 abbrev pub said_by : Option CardRow → CardOutcome
-said_by (Some r) = r.outcome
-said_by None = Wrong
+said_by found = unwrap_or (option_map (λ r. r.outcome) found) Wrong
 
 abbrev pub first_for : List CardRow → List ℕ → List ℕ → CardOutcome
-first_for rows rand autn = said_by (first_in (λ r. is_for r rand autn) rows)
+first_for rows rand autn = said_by (find (λ r. is_for r rand autn) rows)
 
 -- out if there are no rows
 abbrev pub recorded : List CardRow → List ℕ → List ℕ → CardOutcome

@@ -13,6 +13,5 @@ pub trait Card {
 
     // Asks the card to answer a challenge.
     fn ask(&mut self, rand: &[u8; 16], autn: &[u8; 16]) -> CardOutcome
-        ensures outcome { result ≡ (definition.answers (holding self.old) rand.now autn.now).outcome }
-        ensures holds { holding self.new ≡ (definition.answers (holding self.old) rand.now autn.now).next };
+        ensures { record { outcome = result; next = holding self.new } ≡ definition.answers (holding self.old) rand.now autn.now };
 }

@@ -1,6 +1,6 @@
 // What a card says to a challenge, and what cards hold.
 
-#[derive(Clone, Copy)]
+#[derive(Clone, Copy, PartialEq, Eq)]
 pub enum CardOutcome {
     // No card is in.
     Out,
@@ -19,7 +19,7 @@ pub enum CardOutcome {
 }
 
 // What the recorded card says to this challenge.
-#[derive(Clone, Copy)]
+#[derive(Clone, Copy, PartialEq, Eq)]
 pub struct CardRow {
     pub rand: [u8; 16],
     pub autn: [u8; 16],

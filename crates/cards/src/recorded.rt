@@ -4,23 +4,20 @@ ghost use Rattle.cards.specs.Recorded.{first_for, is_for, recorded_definition, r
 
 use crate::card::Card;
 use crate::kinds::{CardOutcome, CardRow, RecordedCard};
-use crate::same::same_bytes;
 
 fn is_for(row: &CardRow, rand: &[u8; 16], autn: &[u8; 16]) -> bool
     ensures { result ≡ is_for row.now rand.now autn.now }
 {
-    same_bytes(&row.rand, rand) && same_bytes(&row.autn, autn)
+    row.rand == *rand && row.autn == *autn
 }
 
 fn first_for(rows: &[CardRow], rand: &[u8; 16], autn: &[u8; 16]) -> CardOutcome
     ensures { result ≡ first_for rows.now rand.now autn.now }
 {
-    for row in rows {
-        if is_for(row, rand, autn) {
-            return row.outcome;
-        }
-    }
-    CardOutcome::Wrong
+    rows.iter()
+        .find(|row| is_for(row, rand, autn))
+        .map(|row| row.outcome)
+        .unwrap_or(CardOutcome::Wrong)
 }
 
 impl<'a> RecordedCard<'a> {

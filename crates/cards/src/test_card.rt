@@ -1,33 +1,35 @@
 // The test card of TS 34.108: X is the key xor RAND, and everything else is made of X.
-ghost use Rattle.std.specs.Prelude.{◌≡◌, ◌+◌, ◌≤◌, ◌++◌, length};
+ghost use Rattle.std.specs.Prelude.{◌≡◌, ◌+◌, ◌<◌, ◌≤◌, ◌++◌, bit_xor, length, slice_index};
 ghost use Rattle.cards.specs.TestCards.{anonymity_key, auts_of, concealed_in, is_genuine, mac_of, rotated_left, sequence_number, test_definition, test_holding, xored};
 
 use crate::card::Card;
 use crate::kinds::{CardOutcome, TestCard};
-use crate::same::same_bytes;
+use std::array;
 
 // The AMF in the MAC of AUTS.
 const AUTS_AMF: [u8; 2] = [0, 0];
 
-fn xor<const N: usize>(a: &[u8], b: &[u8]) -> [u8; N]
-    requires { (length a.now ≡ N) × (length b.now ≡ N) }
+fn xor<const N: usize>(a: &[u8; N], b: &[u8; N]) -> [u8; N]
     ensures { result ≡ xored a.now b.now }
 {
-    let mut out = [0; N];
-    for i in 0..N {
-        out[i] = a[i] ^ b[i];
-    }
-    out
+    array::from_fn(
+        |i| -> u8
+            requires { i < N }
+            ensures { result ≡ bit_xor (slice_index a.entry.now i) (slice_index b.entry.now i) }
+        { a[i] ^ b[i] },
+    )
 }
 
-// Writes one after the other.
-fn join(first: &[u8], second: &[u8], out: &mut [u8])
-    requires { length first.now + length second.now ≡ length out.old }
-    ensures { out.new ≡ first.now ++ second.now }
+// One list of bytes after another. `keys` has the same for itself: a public one would have to ask that the lengths add up.
+fn join<const N: usize>(first: &[u8], second: &[u8]) -> [u8; N]
+    requires { length first.now + length second.now ≡ N }
+    ensures { result ≡ first.now ++ second.now }
 {
+    let mut out = [0; N];
     let (front, back) = out.split_at_mut(first.len());
     front.copy_from_slice(first);
     back.copy_from_slice(second);
+    out
 }
 
 fn sequence_number(s: &[u8; 6]) -> u64
@@ -46,48 +48,39 @@ fn rotated(x: &[u8; 16], by: usize) -> [u8; 16]
 }
 
 // AK, which conceals a sequence number.
-fn anonymity_key(x: &[u8; 16]) -> [u8; 6]
-    ensures { result ≡ anonymity_key x.now }
+fn anonymity_key(x: &[u8; 16]) -> &[u8; 6]
+    ensures { result.now ≡ anonymity_key x.now }
 {
-    let mut key = [0; 6];
-    key.copy_from_slice(&x[3..9]);
-    key
+    x[3..].first_chunk().unwrap()
 }
 
 // The sequence number that AUTN conceals.
 fn revealed(x: &[u8; 16], autn: &[u8; 16]) -> [u8; 6]
     ensures { result ≡ concealed_in x.now autn.now }
 {
-    xor(&autn[0..6], &anonymity_key(x))
+    xor(autn.first_chunk().unwrap(), anonymity_key(x))
 }
 
 // The MAC of a sequence number and an AMF.
-fn mac(x: &[u8; 16], sequence: &[u8; 6], amf: &[u8]) -> [u8; 8]
-    requires { length amf.now ≡ 2 }
+fn mac(x: &[u8; 16], sequence: &[u8; 6], amf: &[u8; 2]) -> [u8; 8]
     ensures { result ≡ mac_of x.now sequence.now amf.now }
 {
-    let mut covered = [0; 8];
-    join(sequence, amf, &mut covered);
-    xor(&x[0..8], &covered)
+    xor(x.first_chunk().unwrap(), &join(sequence, amf))
 }
 
 // Whether AUTN has the MAC of its sequence number and its AMF.
 fn is_genuine(x: &[u8; 16], sequence: &[u8; 6], autn: &[u8; 16]) -> bool
     ensures { result ≡ is_genuine x.now sequence.now autn.now }
 {
-    let expected = mac(x, sequence, &autn[6..8]);
-    same_bytes(&expected, &autn[8..16])
+    let expected = mac(x, sequence, &[autn[6], autn[7]]);
+    expected[..] == autn[8..]
 }
 
 // AUTS: the card's own sequence number, concealed, and its MAC.
 fn auts(x: &[u8; 16], own: &[u8; 6]) -> [u8; 14]
     ensures { result ≡ auts_of x.now own.now }
 {
-    let concealed: [u8; 6] = xor(own, &anonymity_key(x));
-    let mac = mac(x, own, &AUTS_AMF);
-    let mut out = [0; 14];
-    join(&concealed, &mac, &mut out);
-    out
+    join(&xor(own, anonymity_key(x)), &mac(x, own, &AUTS_AMF))
 }
 
 impl TestCard {
@@ -105,7 +98,7 @@ impl Card for TestCard {
     ghost holding = { test_holding };
 
     fn ask(&mut self, rand: &[u8; 16], autn: &[u8; 16]) -> CardOutcome {
-        let x: [u8; 16] = xor(&self.key, rand);
+        let x = xor(&self.key, rand);
         let sequence = revealed(&x, autn);
         if !is_genuine(&x, &sequence, autn) {
             return CardOutcome::Wrong;

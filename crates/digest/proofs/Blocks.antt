@@ -1,16 +1,10 @@
 -- Laws of hashing whole blocks. Assumes nothing.
-use Rattle.std.proofs.Common.{◌≡◌, ℕ, zero, suc, ◌+◌, ◌*◌, ◌/◌, ◌<◌, ◌≤◌, List, [], ◌++◌, length, take, drop, ap, suc-add, zero-add, arith}
+use Rattle.std.specs.Simd.{first_chunks}
+use Rattle.std.proofs.Common.{◌≡◌, ℕ, zero, suc, ◌+◌, ◌*◌, ◌/◌, ◌<◌, ◌≤◌, List, [], ◌∷◌, ◌++◌, length, take, drop, refl, ap, suc-add, zero-add, arith}
 use Rattle.std.proofs.lemmas.List.{length-drop, take-append-le, drop-append-le, nil_from_length}
 use Rattle.digest.specs.Sha256.{compress, hash_blocks}
 
--- one block and the rest of them
-pub hash_blocks-step : (bytes s : List ℕ) → 64 ≤ length bytes → hash_blocks (length bytes / 64) bytes s ≡ hash_blocks (length (drop 64 bytes) / 64) (drop 64 bytes) (compress s (take 64 bytes))
-unfolding hash_blocks
-hash_blocks-step bytes s h =
-    let long = length-drop 64 bytes in
-    let e : length bytes / 64 ≡ suc (length (drop 64 bytes) / 64) = omega arith in
-    ap (λ n. hash_blocks n bytes s) e
-
+-- fewer bytes than a block
 pub hash_blocks-end : (bytes s : List ℕ) → length bytes < 64 → hash_blocks (length bytes / 64) bytes s ≡ s
 unfolding hash_blocks
 hash_blocks-end bytes s h =
@@ -31,3 +25,14 @@ hash_blocks-append (suc n) k a b s h =
     let back = drop-append-le 64 a b long in
     let more = hash_blocks-append n k (drop 64 a) b (compress s (take 64 a)) rest in
     cc
+
+-- the hash value after blocks that are given one by one
+abbrev pub after_blocks : List (List ℕ) → List ℕ → List ℕ
+after_blocks [] s = s
+after_blocks (b ∷ bs) s = after_blocks bs (compress s b)
+
+-- blocks cut from a list
+pub after_blocks-cut : (n : ℕ) (bytes s : List ℕ) → after_blocks (first_chunks 64 n bytes) s ≡ hash_blocks n bytes s
+unfolding hash_blocks
+after_blocks-cut zero bytes s = refl
+after_blocks-cut (suc n) bytes s = after_blocks-cut n (drop 64 bytes) (compress s (take 64 bytes))

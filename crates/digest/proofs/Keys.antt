@@ -1,16 +1,9 @@
 -- The key's blocks of an HMAC, and the blocks of PRF'. Assumes nothing.
-use Rattle.std.proofs.Common.{◌≡◌, ℕ, ◌+◌, ◌*◌, ◌<◌, Bool, cond, ltb, List, [], ◌∷◌, ◌++◌, map, length, get_or, take, drop, set, replicate, sym, ap, ◌∙◌, append_assoc, zero-add, add-one, arith}
-use lib.Bits.{bit_xor}
+use Rattle.std.proofs.Common.{◌≡◌, ℕ, ◌+◌, ◌*◌, ◌<◌, Bool, cond, ltb, List, [], ◌∷◌, ◌++◌, map, length, get_or, take, drop, replicate, sym, ap, ◌∙◌, append_assoc, zero-add, add-one, arith}
 use lib.Seq.{take-append-add}
-use Rattle.std.proofs.lemmas.List.{drop-replicate, length-take-le, take_all, take_more_set, map_more, append-nil}
+use Rattle.std.proofs.lemmas.List.{drop-replicate, length-take-le, take_all, map_more, append-nil}
 use Rattle.digest.specs.Hmac.{zero_filled, block_key, joined, hmac, prf_block, prf_blocks}
 use Rattle.digest.specs.Sha256.{sha256}
-
-pub mask_step : (block out : List ℕ) (mask v i : ℕ) → i < length out → i < length block → take i out ≡ map (λ b. bit_xor b mask) (take i block) → v ≡ bit_xor (get_or block i 0) mask
-    → take (i + 1) (set out i v) ≡ map (λ b. bit_xor b mask) (take (i + 1) block)
-mask_step block out mask v i h l sofar is =
-    let more = map_more (λ (b : ℕ). bit_xor b mask) block i 0 l in
-    take_more_set out i v h ∙ ap (λ x. x ++ v ∷ []) sofar ∙ ap (λ x. map (λ (b : ℕ). bit_xor b mask) (take i block) ++ x ∷ []) is ∙ sym more
 
 -- zeros after a key that was put into a block of zeros
 pub filled_is : (key block : List ℕ) → block ≡ take 0 (replicate 64 0) ++ (key ++ drop (0 + length key) (replicate 64 0)) → block ≡ zero_filled key

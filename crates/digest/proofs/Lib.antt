@@ -1,6 +1,7 @@
 pub mod Blocks
 pub mod Joining
 pub mod Keys
+pub mod Maps
 pub mod Lengths
 pub mod Rounds
 pub mod Tail

@@ -1,7 +1,24 @@
 -- The steps of the loops over one block. Assumes nothing.
-use Rattle.std.proofs.Common.{◌≡◌, ℕ, suc, ◌+◌, ◌-◌, ◌<◌, ◌≤◌, List, [], ◌∷◌, ◌++◌, length, get_or, take, set, ap, ◌∙◌, subst, add-one, arith, length-set}
-use Rattle.std.proofs.lemmas.List.{take_more_set, get_or-take}
+use Rattle.std.specs.Simd.{first_chunks}
+use Rattle.std.proofs.Common.{◌≡◌, ℕ, zero, suc, ◌+◌, ◌-◌, ◌*◌, ◌^◌, ◌<◌, ◌≤◌, List, [], ◌∷◌, ◌++◌, length, get_or, take, drop, set, ap, ◌∙◌, add-one, arith, length-set}
+use Rattle.std.proofs.lemmas.List.{take_more_set, get_or-take, get_or-drop}
 use Rattle.digest.specs.Sha256.{block_words, word_at, schedule_word, extended, schedule, round, rounds, round_constants}
+
+-- a byte of a word, where the block is cut into words
+word_byte : (n t j : ℕ) (block : List ℕ) → t < n → j < 4 → get_or (get_or (first_chunks 4 n block) t []) j 0 ≡ get_or block (4 * t + j) 0
+word_byte zero t j block h four = elim h [ ]
+word_byte (suc n) zero j block h four = get_or-take 4 block j 0 four ∙ ap (λ i. get_or block i 0) (omega arith)
+word_byte (suc n) (suc t) j block h four = word_byte n t j (drop 4 block) (omega arith) four ∙ get_or-drop 4 block (4 * t + j) 0 ∙ ap (λ i. get_or block i 0) (omega arith)
+
+pub word_at-cut : (t : ℕ) (block word : List ℕ) → t < 16 → word ≡ get_or (first_chunks 4 16 block) t [] → get_or word 0 0 * 2 ^ 24 + get_or word 1 0 * 2 ^ 16 + get_or word 2 0 * 2 ^ 8 + get_or word 3 0 ≡ word_at block t
+unfolding word_at
+word_at-cut t block word h is =
+    let b0 = word_byte 16 t 0 block h (omega arith) in
+    let b1 = word_byte 16 t 1 block h (omega arith) in
+    let b2 = word_byte 16 t 2 block h (omega arith) in
+    let b3 = word_byte 16 t 3 block h (omega arith) in
+    let first : get_or block (4 * t + 0) 0 ≡ get_or block (4 * t) 0 = ap (λ i. get_or block i 0) (omega arith) in
+    cc
 
 words_more : (t : ℕ) (b : List ℕ) → block_words (t + 1) b ≡ block_words t b ++ word_at b t ∷ []
 unfolding block_words
@@ -43,12 +60,6 @@ scheduled-more w b t v low high (e, long) is =
     let more = schedule-more t b low in
     let same = schedule_word-take w t low in
     (cc, simp length-set long)
-
--- the same, with a place counted from t
-pub scheduled-next : (w b : List ℕ) (t n v : ℕ) → 16 ≤ t + n → t + n < 64 → Scheduled w b (t + n) → v ≡ schedule_word w (t + n) → Scheduled (set w (t + n) v) b (t + (n + 1))
-scheduled-next w b t n v low high was is =
-    let at : t + n + 1 ≡ t + (n + 1) = omega arith in
-    subst (Scheduled (set w (t + n) v) b) at (scheduled-more w b (t + n) v low high was is)
 
 pub rounds-more : (t : ℕ) (ws s : List ℕ) → rounds (t + 1) ws s ≡ round (rounds t ws s) (get_or round_constants t 0) (get_or ws t 0)
 unfolding rounds

@@ -18,9 +18,9 @@ five : (a b c d e : ℕ) → add (add (add (add a b) c) d) e ≡ (a + b + c + d 
 five a b c d e = more _ e (a + b + c + d) (four a b c d)
 
 -- a word of the schedule, with its newest part last
-pub schedule-sum : (w : List ℕ) (t : ℕ) → add (add (add (get_or w (t - 16) 0) (small_sigma0 (get_or w (t - 15) 0))) (get_or w (t - 7) 0)) (small_sigma1 (get_or w (t - 2) 0)) ≡ schedule_word w t
+pub schedule_sum : (w : List ℕ) (t : ℕ) → add (add (add (get_or w (t - 16) 0) (small_sigma0 (get_or w (t - 15) 0))) (get_or w (t - 7) 0)) (small_sigma1 (get_or w (t - 2) 0)) ≡ schedule_word w t
 unfolding schedule_word
-schedule-sum w t =
+schedule_sum w t =
     let a = get_or w (t - 16) 0 in
     let b = small_sigma0 (get_or w (t - 15) 0) in
     let c = get_or w (t - 7) 0 in
@@ -29,9 +29,9 @@ schedule-sum w t =
     four a b c d ∙ ap (λ n. n % 2 ^ 32) same ∙ sym (four d c b a)
 
 -- the two sums of a round, with their newest parts last
-pub first-sum : (s : List ℕ) (k w : ℕ) → add (add (add (add (get_or s 7 0) k) w) (ch (get_or s 4 0) (get_or s 5 0) (get_or s 6 0))) (big_sigma1 (get_or s 4 0)) ≡ temp1 s k w
+pub first_sum : (s : List ℕ) (k w : ℕ) → add (add (add (add (get_or s 7 0) k) w) (ch (get_or s 4 0) (get_or s 5 0) (get_or s 6 0))) (big_sigma1 (get_or s 4 0)) ≡ temp1 s k w
 unfolding temp1
-first-sum s k w =
+first_sum s k w =
     let h = get_or s 7 0 in
     let choose = ch (get_or s 4 0) (get_or s 5 0) (get_or s 6 0) in
     let sigma = big_sigma1 (get_or s 4 0) in

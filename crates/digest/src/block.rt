@@ -69,6 +69,8 @@ const K: [u32; 64] = [
     0xc671_78f2,
 ];
 
+// The four functions of FIPS 180-4, section 4.1.2, each under its own name: one function of the three amounts would hide the
+// names behind numbers.
 fn big_sigma0(x: u32) -> u32
     ensures { result ≡ big_sigma0 x }
 {
@@ -94,13 +96,14 @@ fn small_sigma1(x: u32) -> u32
 }
 
 // One round, with its constant and its word of the schedule.
+#[tactic(auto, using(crate::proofs::Sums::first_sum, crate::proofs::Sums::second_sum), unfolding(crate::specs::Sha256::add, crate::specs::Sha256::ch, crate::specs::Sha256::maj, crate::specs::Sha256::round))]
 fn apply_round(s: [u32; 8], k: u32, w: u32) -> [u32; 8]
     ensures { result ≡ round s k w }
 {
     let [a, b, c, d, e, f, g, h] = s;
     let choose = (e & f) ^ (!e & g);
     let majority = (a & b) ^ (a & c) ^ (b & c);
-    // What waits longest comes last: the next round begins with this sum.
+    // The part that is ready last comes last: the next round begins with this sum.
     let t1 = h
         .wrapping_add(k)
         .wrapping_add(w)
@@ -110,10 +113,12 @@ fn apply_round(s: [u32; 8], k: u32, w: u32) -> [u32; 8]
     [t1.wrapping_add(t2), a, b, c, d.wrapping_add(t1), e, f, g]
 }
 
-// Word `t` of the schedule, from those before it. The newest of them comes last: the sum of the word after next waits
-// for this one.
+// Word `t` of the schedule, from those before it. The newest of them comes last: the sum of the word after next needs
+// this one.
+#[tactic(auto, using(crate::proofs::Sums::schedule_sum), unfolding(crate::specs::Sha256::add))]
 fn schedule_word(w: &[u32; 64], t: usize) -> u32
-    requires { (16 ≤ t) × (t < 64) }
+    requires from { 16 ≤ t }
+    requires below { t < 64 }
     ensures { result ≡ schedule_word w.now t }
 {
     w[t - 16]
@@ -122,31 +127,25 @@ fn schedule_word(w: &[u32; 64], t: usize) -> u32
         .wrapping_add(small_sigma1(w[t - 2]))
 }
 
-// The 64 words of the message schedule of a block. Four stand in one turn of the second loop, so that most sums wait for
-// a register and not for memory.
-fn message_schedule(block: &[u8]) -> [u32; 64]
-    requires { length block.now ≡ 64 }
+// The 64 words of the message schedule of a block.
+fn message_schedule(block: &[u8; 64]) -> [u32; 64]
     ensures { result ≡ schedule 48 block.now }
 {
     let mut w = [0; 64];
-    for t in 0..16 {
-        w[t] = u32::from_be_bytes([
-            block[4 * t],
-            block[4 * t + 1],
-            block[4 * t + 2],
-            block[4 * t + 3],
-        ]);
+    let (words, _) = block.as_chunks::<4>();
+    // Written at a place each: of what is written through `iter_mut` a proof knows only the length.
+    for (t, word) in words.iter().enumerate() {
+        w[t] = u32::from_be_bytes(*word);
     }
-    for i in 4..16 {
-        w[4 * i] = schedule_word(&w, 4 * i);
-        w[4 * i + 1] = schedule_word(&w, 4 * i + 1);
-        w[4 * i + 2] = schedule_word(&w, 4 * i + 2);
-        w[4 * i + 3] = schedule_word(&w, 4 * i + 3);
+    // Each word is made of those before it, so the loop counts.
+    for t in 16..64 {
+        w[t] = schedule_word(&w, t);
     }
     w
 }
 
-// The sixteen rounds from `t` on, in a row: the compiler then renames the eight words in place of moving them.
+// The sixteen rounds from `t` on, in a row: the compiler then renames the eight words in place of moving them. One round a
+// turn of a loop over all 64 is a tenth slower.
 fn sixteen_rounds(s: &mut [u32; 8], t: usize, w: &[u32; 64])
     requires { t + 16 ≤ 64 }
     ensures { (start : List ℕ) → s.old ≡ rounds t w.now start → s.new ≡ rounds (t + 16) w.now start }
@@ -169,6 +168,7 @@ fn sixteen_rounds(s: &mut [u32; 8], t: usize, w: &[u32; 64])
     *s = apply_round(s14, K[t + 15], w[t + 15]);
 }
 
+#[tactic(auto, unfolding(crate::specs::Sha256::rounds))]
 fn all_rounds(s: &mut [u32; 8], w: &[u32; 64])
     ensures { s.new ≡ rounds 64 w.now s.old }
 {
@@ -178,8 +178,8 @@ fn all_rounds(s: &mut [u32; 8], w: &[u32; 64])
 }
 
 // Takes one block into the hash value.
-fn compress_block(state: &mut [u32; 8], block: &[u8])
-    requires { length block.now ≡ 64 }
+#[tactic(auto, unfolding(crate::specs::Sha256::add, crate::specs::Sha256::compress, crate::specs::Sha256::summed))]
+fn compress_block(state: &mut [u32; 8], block: &[u8; 64])
     ensures { state.new ≡ compress state.old block.now }
 {
     let w = message_schedule(block);
@@ -202,10 +202,8 @@ fn compress_block(state: &mut [u32; 8], block: &[u8])
 pub(crate) fn compress_all(state: &mut [u32; 8], bytes: &[u8])
     ensures { state.new ≡ hash_blocks (length bytes.now / 64) bytes.now state.old }
 {
-    let mut rest = bytes;
-    while rest.len() >= 64 {
-        let (block, more) = rest.split_at(64);
+    let (blocks, _) = bytes.as_chunks::<64>();
+    for block in blocks {
         compress_block(state, block);
-        rest = more;
     }
 }

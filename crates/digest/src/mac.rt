@@ -38,11 +38,7 @@ fn block_key(key: &[u8]) -> [u8; 64]
 fn masked(block: &[u8; 64], pad: u8) -> [u8; 64]
     ensures { result ≡ map (λ b. bit_xor b pad) block.now }
 {
-    let mut out = [0; 64];
-    for i in 0..64 {
-        out[i] = block[i] ^ pad;
-    }
-    out
+    block.map(|b| b ^ pad)
 }
 
 impl Hmac {
@@ -63,6 +59,7 @@ impl Hmac {
         self.inner.update(part);
     }
 
+    #[tactic(auto, unfolding(crate::specs::Hmac::hmac))]
     pub fn finish(self) -> [u8; 32]
         ensures { (k m : List ℕ) → Keyed self k m → result ≡ hmac k m }
     {

@@ -26,6 +26,7 @@ pub fn prf_prime(key: &[u8; 32], seed: &[&[u8]]) -> [u8; 208]
     let mut out = [0; 208];
     let mut last = next_block(&keyed, &[], seed, 1);
     put(&mut out, 0, &last);
+    // The number of a block is hashed with it, so the loop counts.
     for n in 1..6u8 {
         let block = next_block(&keyed, &last, seed, n + 1);
         put(&mut out, 32 * n as usize, &block);

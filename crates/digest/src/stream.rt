@@ -84,13 +84,15 @@ fn bytes_of(words: &[u32; 8]) -> [u8; 32]
     ensures { result ≡ word_bytes words.now }
 {
     let mut out = [0; 32];
-    for i in 0..8 {
-        put(&mut out, 4 * i, &words[i].to_be_bytes());
+    // Written at a place each: of what is written through `chunks_exact_mut` a proof knows only the length.
+    for (i, word) in words.iter().enumerate() {
+        put(&mut out, 4 * i, &word.to_be_bytes());
     }
     out
 }
 
 impl Sha256 {
+    #[tactic(auto, unfolding(crate::specs::Sha256::hash_blocks))]
     pub fn new() -> Sha256
         ensures { Absorbed result [] }
     {

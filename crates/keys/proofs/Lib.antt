@@ -1,2 +1,1 @@
 pub mod Derived
-pub mod Copied

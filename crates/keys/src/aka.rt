@@ -1,7 +1,6 @@
 // CK' and IK', and the key set of EAP-AKA' (RFC 5448, section 3.3; TS 33.501, annex A.3).
 ghost use Rattle.std.specs.Prelude.{◌≡◌, ◌+◌, ◌≤◌, ◌++◌, length, take, drop};
 ghost use Rattle.keys.specs.Keys.{ck_ik_prime, ck_prime, ik_prime, emsk_of, k_aut_of, k_encr_of, k_re_of, master_key, msk_of};
-ghost use Rattle.keys.specs.Octets.{octets};
 
 use crate::kdf::derive_key;
 use crate::octets::Octets;
@@ -31,11 +30,7 @@ pub(crate) fn part<const N: usize>(bytes: &[u8], at: usize) -> [u8; N]
     requires { at + N ≤ length bytes.now }
     ensures { result ≡ take N (drop at bytes.now) }
 {
-    let mut out = [0; N];
-    for i in 0..N {
-        out[i] = bytes[at + i];
-    }
-    out
+    *bytes[at..].first_chunk().unwrap()
 }
 
 // One list of bytes after another.
@@ -50,13 +45,6 @@ fn join<const N: usize>(first: &[u8], second: &[u8]) -> [u8; N]
     out
 }
 
-// One key after the other.
-fn pair(first: &[u8; 16], second: &[u8; 16]) -> [u8; 32]
-    ensures { result ≡ first.now ++ second.now }
-{
-    join(first, second)
-}
-
 // CK' and IK' one after the other.
 fn ck_ik_prime<const N: usize>(
     ck: &[u8; 16],
@@ -64,9 +52,9 @@ fn ck_ik_prime<const N: usize>(
     network: &Octets<N>,
     autn: &[u8; 16],
 ) -> [u8; 32]
-    ensures { result ≡ ck_ik_prime ck.now ik.now (octets network.now) autn.now }
+    ensures { result ≡ ck_ik_prime ck.now ik.now network.now autn.now }
 {
-    let key = pair(ck, ik);
+    let key: [u8; 32] = join(ck, ik);
     derive_key(&key, FC_PRIME, &[network.as_slice(), &autn[0..6]])
 }
 
@@ -77,8 +65,8 @@ impl PrimeKeys {
         network: &Octets<N>,
         autn: &[u8; 16],
     ) -> PrimeKeys
-        ensures ck { result.ck ≡ ck_prime ck.now ik.now (octets network.now) autn.now }
-        ensures ik { result.ik ≡ ik_prime ck.now ik.now (octets network.now) autn.now }
+        ensures ck { result.ck ≡ ck_prime ck.now ik.now network.now autn.now }
+        ensures ik { result.ik ≡ ik_prime ck.now ik.now network.now autn.now }
     {
         let both = ck_ik_prime(ck, ik, network, autn);
         PrimeKeys {
@@ -92,7 +80,7 @@ impl PrimeKeys {
 fn master_key(prime: &PrimeKeys, identity: &[u8]) -> [u8; 208]
     ensures { result ≡ master_key prime.now.ck prime.now.ik identity.now }
 {
-    let key = pair(&prime.ik, &prime.ck);
+    let key = join(&prime.ik, &prime.ck);
     prf_prime(&key, &[b"EAP-AKA'", identity])
 }
 

@@ -2,7 +2,6 @@
 #![tactic(auto)]
 
 mod aka;
-mod bounded;
 mod chain;
 mod kdf;
 mod octets;

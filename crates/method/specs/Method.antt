@@ -4,6 +4,7 @@ use Rattle.std.specs.Prelude.{◌≡◌, ℕ, ◌+◌, ◌<◌, ◌≤◌, List,
 use Rattle.nas.specs.Replies.{response_packet}
 use Rattle.method.specs.declared.weighing.Verdict.{Verdict}
 use Rattle.method.specs.declared.weighing.Verdict.TheVariants.{GoOn, Granted, Unproven}
+use Rattle.method.specs.declared.weighing.Weighing.{Weighing}
 use Rattle.method.specs.Subscribers.{Subscriber}
 
 -- a block of key material, MSK then EMSK, and a stage of the method's own
@@ -57,8 +58,9 @@ emptied D h = record { block = None; stage = D.cleared h.stage }
 abbrev pub replied : List ℕ → List ℕ → List ℕ
 replied reply buffer = reply ++ drop (length reply) buffer
 
--- what holds of the fault of an unproven request
-abbrev pub IfUnproven : {F : Type 0} → (F → Type 0) → Verdict F → Type 0
-IfUnproven P GoOn = Unit {0}
-IfUnproven P Granted = Unit {0}
-IfUnproven P (Unproven f) = P f
+-- that one call did what p says: its verdict, the length of its reply, the buffer and what is held before and after
+pub record Gives {F S : Type 0} (p : Processed F S) (result : Weighing F) (buffer written : List ℕ) (held : Holding S) : Type 0 where
+  pub verdict : result.verdict ≡ p.verdict
+  pub len : result.reply_len ≡ length p.reply
+  pub reply : written ≡ replied p.reply buffer
+  pub holds : held ≡ p.next

@@ -2,7 +2,7 @@
 use Rattle.std.specs.Prelude.{ℕ, ◌+◌, cond, List, [], length, take, drop, Some, None, Option, nat_eq, nat_le, slice_index}
 use Rattle.std.specs.Option.{option_map}
 use Rattle.nas.specs.Replies.{response_packet}
-use Rattle.nas.specs.Walk.{first_in}
+use Rattle.std.specs.List.{find}
 use Rattle.method.specs.declared.row.Outcome.{Outcome}
 use Rattle.method.specs.declared.row.Outcome.TheVariants.{GoOn as SaysGoOn, Grant, Refuse}
 use Rattle.method.specs.declared.row.Row.{Row}
@@ -27,7 +27,7 @@ scripted_type = 253
 
 -- the outcome of the first row with this identifier
 abbrev pub first_row : List Row → ℕ → Option Outcome
-first_row rows i = option_map (λ r. r.outcome) (first_in (λ r. nat_eq r.identifier i) rows)
+first_row rows i = option_map (λ r. r.outcome) (find (λ r. nat_eq r.identifier i) rows)
 
 -- a verdict and the block that it leaves
 pub record Decision : Type 0 where

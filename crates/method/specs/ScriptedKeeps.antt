@@ -25,34 +25,34 @@ module _ (store : List ℕ) (at : ℕ) where
       let fits = leb-true (at + 128) (length store) inside in
       let rest = length-drop at store in
       (take 128 (drop at store), refl, length-take-le 128 (drop at store) (omega arith))
-  granted_at false inside e = absurd (let z : ◌≡◌ {A = ℕ} 0 1 = cc in omega arith)
+  granted_at false inside e = cc
 
   unproven_at : (b : Bool) (f : ScriptedFault) → (at_place b).verdict ≡ Unproven f → (at_place b).block ≡ None
-  unproven_at true f e = absurd (let z : ◌≡◌ {A = ℕ} 0 1 = cc in omega arith)
+  unproven_at true f e = cc
   unproven_at false f e = refl
 
   go_on_at : (b : Bool) (held : Option (List ℕ)) → (at_place b).verdict ≡ GoOn → (at_place b).block ≡ held
-  go_on_at true held e = absurd (let z : ◌≡◌ {A = ℕ} 0 1 = cc in omega arith)
-  go_on_at false held e = absurd (let z : ◌≡◌ {A = ℕ} 0 1 = cc in omega arith)
+  go_on_at true held e = cc
+  go_on_at false held e = cc
 
 module _ (s : Script) (held : Option (List ℕ)) where
   granted_decided : (o : Option Outcome) → (decided o s held).verdict ≡ Granted → (x : List ℕ) × ((decided o s held).block ≡ Some x) × (length x ≡ 128)
-  granted_decided None e = absurd (let z : ◌≡◌ {A = ℕ} 0 1 = cc in omega arith)
-  granted_decided (Some SaysGoOn) e = absurd (let z : ◌≡◌ {A = ℕ} 0 1 = cc in omega arith)
+  granted_decided None e = cc
+  granted_decided (Some SaysGoOn) e = cc
   granted_decided (Some (Grant at)) e = granted_at s.store at (nat_le (at + 128) (length s.store)) refl e
-  granted_decided (Some Refuse) e = absurd (let z : ◌≡◌ {A = ℕ} 0 1 = cc in omega arith)
+  granted_decided (Some Refuse) e = cc
 
   unproven_decided : (o : Option Outcome) (f : ScriptedFault) → (decided o s held).verdict ≡ Unproven f → (decided o s held).block ≡ None
   unproven_decided None f e = refl
-  unproven_decided (Some SaysGoOn) f e = absurd (let z : ◌≡◌ {A = ℕ} 0 1 = cc in omega arith)
+  unproven_decided (Some SaysGoOn) f e = cc
   unproven_decided (Some (Grant at)) f e = unproven_at s.store at (nat_le (at + 128) (length s.store)) f e
   unproven_decided (Some Refuse) f e = refl
 
   go_on_decided : (o : Option Outcome) → (decided o s held).verdict ≡ GoOn → (decided o s held).block ≡ held
-  go_on_decided None e = absurd (let z : ◌≡◌ {A = ℕ} 0 1 = cc in omega arith)
+  go_on_decided None e = cc
   go_on_decided (Some SaysGoOn) e = refl
   go_on_decided (Some (Grant at)) e = go_on_at s.store at (nat_le (at + 128) (length s.store)) held e
-  go_on_decided (Some Refuse) e = absurd (let z : ◌≡◌ {A = ℕ} 0 1 = cc in omega arith)
+  go_on_decided (Some Refuse) e = cc
 
 module _ (h : Holding Script) (packet : List ℕ) (s : Subscriber) (suci : List ℕ) where
   abbrev row : Option Outcome

@@ -1,7 +1,6 @@
-// The interface of an EAP method. Its two ghost members say what a method means; everything above it is proved against them.
-ghost use Rattle.std.specs.Prelude.{◌≡◌, length};
-ghost use Rattle.keys.specs.Octets.{octets};
-ghost use Rattle.method.specs.Method.{Definition, Holding, IfUnproven, emptied, replied};
+// The interface of an EAP method. Its ghost members say what a method means; everything above it is proved against them.
+ghost use Rattle.std.specs.Prelude.{◌≡◌};
+ghost use Rattle.method.specs.Method.{Definition, Gives, Holding, emptied};
 ghost use Rattle.method.specs.Subscribers.{subscriber};
 
 use crate::subscription::Subscription;
@@ -29,15 +28,14 @@ pub trait Method {
         suci: &Octets<255>,
         reply: &mut [u8; 1500],
     ) -> Weighing<Self::Fault>
-        ensures verdict { result.verdict ≡ (definition.processes (holding self.old) packet.now (subscriber subscription.now) (octets suci.now)).verdict }
-        ensures fault { IfUnproven (λ f. (definition.number f ≡ Self.Fault.MethodFault.number f) × (definition.place f ≡ Self.Fault.MethodFault.place f)) result.verdict }
-        ensures len { result.reply_len ≡ length (definition.processes (holding self.old) packet.now (subscriber subscription.now) (octets suci.now)).reply }
-        ensures reply { reply.new ≡ replied (definition.processes (holding self.old) packet.now (subscriber subscription.now) (octets suci.now)).reply reply.old }
-        ensures holds { holding self.new ≡ (definition.processes (holding self.old) packet.now (subscriber subscription.now) (octets suci.now)).next };
+        ensures { Gives (definition.processes (holding self.old) packet.now (subscriber subscription.now) suci.now) result reply.old reply.new (holding self.new) };
 
     fn block(&self) -> Option<[u8; 128]>
         ensures { result ≡ (holding self.now).block };
 
     fn clear(&mut self)
         ensures { holding self.new ≡ emptied definition (holding self.old) };
+
+    // What the definition says of the numbers and places of its faults is what the faults tell.
+    ghost tells: { (f : Self.Fault) → (definition.number f ≡ Self.Fault.MethodFault.number f) × (definition.place f ≡ Self.Fault.MethodFault.place f) };
 }

@@ -1,5 +1,5 @@
 // The rows of the scripted method, and what it holds.
-#[derive(Clone, Copy)]
+#[derive(Clone, Copy, Debug, PartialEq, Eq)]
 pub enum Outcome {
     GoOn,
     // Granted, with the 128 bytes of the store from this place on.
@@ -8,14 +8,14 @@ pub enum Outcome {
 }
 
 // What the method says to a packet with this identifier.
-#[derive(Clone, Copy)]
+#[derive(Clone, Copy, Debug, PartialEq, Eq)]
 pub struct Row {
     pub identifier: u8,
     pub outcome: Outcome,
 }
 
 // Why the scripted method finds a request unproven.
-#[derive(Clone, Copy)]
+#[derive(Clone, Copy, Debug, PartialEq, Eq)]
 pub enum ScriptedFault {
     NoRow,
     OutsideStore,

@@ -1,5 +1,5 @@
 // The scripted method: the first row with the packet's identifier decides, and the reply has an empty body.
-ghost use Rattle.std.specs.Prelude.{◌≡◌, ℕ, [], ◌++◌, length, None, slice_index};
+ghost use Rattle.std.specs.Prelude.{◌≡◌, ℕ, [], ◌++◌, length, None, slice_index, refl};
 ghost use Rattle.nas.specs.Replies.{response_packet};
 ghost use Rattle.method.specs.Method.{replied};
 ghost use Rattle.method.specs.Scripted.{decided, first_row, granted_from, number_of};
@@ -10,12 +10,9 @@ use crate::row::{Outcome, Row, Scripted, ScriptedFault};
 use crate::subscription::Subscription;
 use crate::weighing::{Verdict, Weighing};
 use keys::Octets;
-use nas::MethodFault;
+use nas::{MethodFault, write_response};
 
 const EAP_TYPE: u8 = 253;
-
-// MSK and EMSK.
-const BLOCK: usize = 128;
 
 impl MethodFault for ScriptedFault {
     ghost number = { number_of };
@@ -37,24 +34,16 @@ impl MethodFault for ScriptedFault {
 fn first_row(rows: &[Row], identifier: u8) -> Option<Outcome>
     ensures { result ≡ first_row rows.now identifier }
 {
-    for row in rows {
-        if row.identifier == identifier {
-            return Some(row.outcome);
-        }
-    }
-    None
+    rows.iter()
+        .find(|row| row.identifier == identifier)
+        .map(|row| row.outcome)
 }
 
-// The bytes of the store from this place on, if a whole block lies there.
+// The bytes of the store from this place on, if a whole block lies there: MSK and EMSK.
 fn block_at(store: &[u8], at: usize) -> Option<[u8; 128]>
     ensures { result ≡ (granted_from store.now at).block }
 {
-    if store.len() < BLOCK || store.len() - BLOCK < at {
-        return None;
-    }
-    let mut block = [0; 128];
-    block.copy_from_slice(&store[at..at + BLOCK]);
-    Some(block)
+    store.get(at..)?.first_chunk().copied()
 }
 
 impl<'a> Scripted<'a> {
@@ -86,13 +75,12 @@ impl<'a> Scripted<'a> {
             Some(Outcome::GoOn) => Verdict::GoOn,
             Some(Outcome::Grant { at }) => {
                 self.block = block_at(self.store, at);
-                if self.block.is_some() {
-                    Verdict::Granted
-                } else {
-                    Verdict::Unproven(ScriptedFault::OutsideStore)
+                match self.block {
+                    Some(_) => Verdict::Granted,
+                    None => Verdict::Unproven(ScriptedFault::OutsideStore),
                 }
             }
-            _ => {
+            Some(Outcome::Refuse) | None => {
                 self.forget();
                 Verdict::Unproven(ScriptedFault::NoRow)
             }
@@ -100,28 +88,21 @@ impl<'a> Scripted<'a> {
     }
 }
 
-fn write_reply(identifier: u8, reply: &mut [u8; 1500])
-    ensures { reply.new ≡ replied (response_packet identifier 253 []) reply.old }
+// Writes a reply without a body, and tells its length. Stays beside that of aka: one public function for both would have to ask
+// its callers for a body that fits.
+fn write_reply(identifier: u8, reply: &mut [u8; 1500]) -> usize
+    ensures len { result ≡ length (response_packet identifier 253 []) }
+    ensures bytes { reply.new ≡ replied (response_packet identifier 253 []) reply.old }
 {
-    reply[0] = 2;
-    reply[1] = identifier;
-    reply[2] = 0;
-    reply[3] = 5;
-    reply[4] = EAP_TYPE;
+    write_response(identifier, EAP_TYPE, &[], reply).unwrap()
 }
 
-// The identifier of a packet; of bytes too few to have one it is 0.
+// The identifier of a packet; of bytes too few to have one it is 0, since processing is defined for any bytes.
 pub fn identifier_of(packet: &[u8]) -> u8
     ensures { result ≡ slice_index packet.now 1 }
 {
-    if packet.len() < 2 {
-        return 0;
-    }
-    packet[1]
+    packet.get(1).copied().unwrap_or(0)
 }
-
-// Code, identifier, length and type: the reply has no body.
-const REPLY_LEN: usize = 5;
 
 impl<'a> Method for Scripted<'a> {
     type Fault = ScriptedFault;
@@ -142,13 +123,10 @@ impl<'a> Method for Scripted<'a> {
         reply: &mut [u8; 1500],
     ) -> Weighing<ScriptedFault> {
         let identifier = identifier_of(packet);
-        write_reply(identifier, reply);
+        let reply_len = write_reply(identifier, reply);
         let outcome = first_row(self.rows, identifier);
         let verdict = self.decide(outcome);
-        Weighing {
-            verdict,
-            reply_len: REPLY_LEN,
-        }
+        Weighing { verdict, reply_len }
     }
 
     fn block(&self) -> Option<[u8; 128]> {
@@ -158,4 +136,6 @@ impl<'a> Method for Scripted<'a> {
     fn clear(&mut self) {
         self.forget();
     }
+
+    ghost tells = { λ _. (refl, refl) };
 }

@@ -1,5 +1,5 @@
 // What processing a packet gives.
-#[derive(Clone, Copy)]
+#[derive(Clone, Copy, Debug, PartialEq, Eq)]
 pub enum Verdict<F> {
     GoOn,
     Granted,
@@ -7,8 +7,9 @@ pub enum Verdict<F> {
     Unproven(F),
 }
 
-#[derive(Clone, Copy)]
+#[derive(Clone, Copy, Debug, PartialEq, Eq)]
 pub struct Weighing<F> {
     pub verdict: Verdict<F>,
+    // The reply stands in the buffer that was lent: this interface allocates nothing.
     pub reply_len: usize,
 }

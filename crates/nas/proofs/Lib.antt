@@ -1,5 +1,4 @@
 pub mod Outcomes
-pub mod Own
 pub mod Soundness
 pub mod Walks
 pub mod Within

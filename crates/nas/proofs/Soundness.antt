@@ -11,7 +11,7 @@ use Rattle.nas.specs.declared.packet.Code.{Code}
 use Rattle.nas.specs.declared.packet.Code.TheVariants.{Request as CodeRequest, Success as CodeSuccess, Failure as CodeFailure}
 use Rattle.nas.specs.Elements.{Elem, elements, value_of, at_tag, header_of, length_of, length_at}
 use Rattle.nas.specs.Messages.{Contents, request, success, failure, reject, Fixed, of_request, of_result, of_reject, mandatory, typed, fixed_in, message_type_of, ngksi_of, start_of, needed, long_enough, for_keys, request_of, result_for, result_of, reject_for, contents_of, read_message}
-use Rattle.nas.specs.Outcomes.{then, IfRead}
+use Rattle.nas.specs.Outcomes.{IfRead}
 use Rattle.nas.specs.Packets.{EapPacket, code_in, coded, packet_in}
 use Rattle.nas.specs.Parts.{Field, cut, two_bytes}
 use Rattle.nas.specs.Sound.{Lies, ForKeys, Carried, SoundFailure, Sound}
@@ -42,7 +42,7 @@ coded-ok : {F : Type 0} (t : MessageType) (w : Field) (p : EapPacket) (o : Optio
 coded-ok t w p (Some d) h c e =
     let q : record { code = d; identifier = get_or w.octets 1 0; whole = w } ≡ p = cc in
     subst (Packed t w) q (record { whole = refl; least = h; code = c; identifier = refl })
-coded-ok t w p None h c e = let z : ◌≡◌ {A = ℕ} 0 1 = cc in absurd (omega arith)
+coded-ok t w p None h c e = cc
 
 packet-ok : {F : Type 0} (t : MessageType) (w : Field) (p : EapPacket) → ◌≡◌ {A = Result EapPacket (PacketFault F)} (Ok p) (packet_in t w) → Packed t w p
 packet-ok t w p e =
@@ -110,7 +110,7 @@ fixed-ok InReject m h e = let q : of_reject ≡ h = cc in subst (FixedSound m) q
 
 typed-ok : {F : Type 0} (o : Option MessageType) (m : List ℕ) (h : Fixed) → ◌≡◌ {A = Result Fixed (MessageFault F)} (Ok h) (typed o m) → FixedSound m h
 typed-ok (Some t) m h e = fixed-ok t m h (raised-ok InElement (fixed_in t m) h e)
-typed-ok None m h e = let z : ◌≡◌ {A = ℕ} 0 1 = cc in absurd (omega arith)
+typed-ok None m h e = cc
 
 mandatory-ok : {F : Type 0} (m : List ℕ) (h : Fixed) → ◌≡◌ {A = Result Fixed (MessageFault F)} (Ok h) (mandatory m) → (length m ≤ 2048) × FixedSound m h
 mandatory-ok m h e =
@@ -125,14 +125,14 @@ Bytes m = (i : ℕ) → Fits w8 (get_or m i 0)
 
 needed-ok : {F : Type 0} (o : Option Elem) (n : ℕ) (e : Elem) → ◌≡◌ {A = Result Elem (MessageFault F)} (Ok e) (needed o n) → Some e ≡ o
 needed-ok (Some x) n e q = cc
-needed-ok None n e q = let z : ◌≡◌ {A = ℕ} 0 1 = cc in absurd (omega arith)
+needed-ok None n e q = cc
 
 long_ok : {F : Type 0} (o : Option Field) (n : ℕ) (b : Field) → ◌≡◌ {A = Result Field (MessageFault F)} (Ok b) (long_enough o n) → (Some b ≡ o) × (2 ≤ length b.octets)
 long_ok (Some a) n b q =
     let c = cond-ok _ _ _ b q in
     let same : a ≡ b = cc c.1 in
     (ap Some (sym same), subst (λ x. 2 ≤ length x.octets) same (leb-true _ _ c.0))
-long_ok None n b q = let z : ◌≡◌ {A = ℕ} 0 1 = cc in absurd (omega arith)
+long_ok None n b q = cc
 
 keys_ok : {F : Type 0} (k : ℕ) (o : Option Field) (n : ℕ) (b : Field) → ◌≡◌ {A = Result Field (MessageFault F)} (Ok b) (for_keys k o n) → k < 16 → ((a : Field) → Some a ≡ o → length a.octets ≤ 255) → (Some b ≡ o) × ForKeys k b
 keys_ok k o n b q h most =
@@ -175,7 +175,7 @@ success_sound {F = F} m k (Some x) p c short low there packet whole bytes e =
     subst (Sound m) is (record { short = short; keys = keys.1; abba = abba; packet = packet; whole = whole })
 success_sound {F = F} m k None p c short low there packet whole bytes e =
     let b = then_ok _ _ c e in
-    let keys = keys_ok {F = F} k None (length m) b.0 b.1 low (λ a q. let z : ◌≡◌ {A = ℕ} 0 1 = cc in absurd (omega arith)) in
+    let keys = keys_ok {F = F} k None (length m) b.0 b.1 low (λ a q. cc) in
     let z : ◌≡◌ {A = ℕ} 0 1 = cc keys.0 in
     absurd (omega arith)
 
@@ -214,20 +214,7 @@ sound {F = F} m c e bytes =
     let opened = mandatory-ok {F = F} m h.0 h.1 in
     contents-sound {F = F} m h.0 c opened.0 bytes opened.1 h.2
 
--- ---- what the reader of a whole message ensures
-pub record Outcome (F : Type 0) (m : List ℕ) (r : Result Contents (MessageFault F)) : Type 0 where
-  pub value : r ≡ read_message m
-  pub sound : IfRead (Sound m) r
-
-outcome : {F : Type 0} (m : List ℕ) (r : Result Contents (MessageFault F)) → r ≡ read_message m → Bytes m → Outcome F m r
-outcome m (Ok c) e bytes = record { value = e; sound = sound m c e bytes }
-outcome m (Err f) e bytes = record { value = e; sound = tt }
-
-pub refused : {F : Type 0} (m : List ℕ) (f : MessageFault F) → Bytes m → Err f ≡ mandatory m → Outcome F m (Err f)
-unfolding read_message
-refused m f bytes e = outcome m (Err f) (ap (λ r. then r (λ h. contents_of h (elements m (start_of h)) (length m))) e) bytes
-
--- a reader of the elements that stands at p, where they start
-pub went_on : {F : Type 0} (m : List ℕ) (h : Fixed) (p : ℕ) (r : Result Contents (MessageFault F)) → Ok h ≡ mandatory {F = F} m → p ≡ start_of h → r ≡ contents_of h (elements m p) (length m) → Bytes m → Outcome F m r
-unfolding read_message
-went_on {F = F} m h p r opened at e bytes = outcome m r (e ∙ ap (λ q. contents_of h (elements m q) (length m)) at ∙ ap (λ x. then x (λ h. contents_of h (elements m (start_of h)) (length m))) opened) bytes
+-- what the reader of a whole message ensures
+pub sound_read : {F : Type 0} (m : List ℕ) (r : Result Contents (MessageFault F)) → r ≡ read_message m → Bytes m → IfRead (Sound m) r
+sound_read m (Ok c) e bytes = sound m c e bytes
+sound_read m (Err f) e bytes = tt

@@ -1,8 +1,9 @@
--- How a reader goes on, and that a walk with turns enough gives every part. Assumes nothing.
-use Rattle.std.proofs.Common.{◌≡◌, ℕ, zero, suc, ◌+◌, ◌-◌, ◌<◌, ◌≤◌, Bool, true, cond, List, [], ◌∷◌, IfSome, Some, None, Ok, Err, Option, Result, sym, refl, ap, ◌∙◌, subst, ⊎_elim, arith}
+-- That a walk with turns enough gives every part, and what all parts of a walk have. Assumes nothing.
+use Rattle.std.proofs.Common.{◌≡◌, ℕ, zero, suc, ◌+◌, ◌<◌, ◌≤◌, Bool, true, List, [], ◌∷◌, length, IfSome, Some, None, Ok, Err, Option, Result, sym, refl, ap, ◌∙◌, subst, ⊎_elim, arith, MatchResult}
 use Rattle.std.proofs.lemmas.Bool.{lt-ltb, le-ltb, cond-true, cond-false, cases_lt, cond_both}
+use Rattle.std.specs.List.{AllByRecursion}
 use Rattle.nas.specs.Outcomes.{IfFound}
-use Rattle.nas.specs.Walk.{walk, more, step, stepped, read_first, first, first_in, keep_first}
+use Rattle.nas.specs.Walk.{walk, more, parts_from, first, first_in}
 
 -- where a part was found already, the others have only to be without fault
 abbrev pub pick : {X E : Type 0} → (X → Bool) → Option X → Result (List X) E → Result (Option X) E
@@ -10,43 +11,19 @@ pick is None r = first is r
 pick is (Some x) (Ok xs) = Ok (Some x)
 pick is (Some x) (Err f) = Err f
 
--- each part of a list has P
-abbrev pub AllOf : {X : Type 0} → (X → Type 0) → List X → Type 0
-AllOf P [] = Unit {0}
-AllOf P (x ∷ xs) = P x × AllOf P xs
-
--- and so has the first of a kind
-pub first-has : {X : Type 0} (is : X → Bool) (P : X → Type 0) (xs : List X) → AllOf P xs → IfSome (first_in is xs) P
+-- what each part of a list has, the first of a kind has
+pub first-has : {X : Type 0} (is : X → Bool) (P : X → Type 0) (xs : List X) → AllByRecursion P xs → IfSome (first_in is xs) P
 first-has is P [] h = tt
 first-has is P (x ∷ xs) h = cond_both (is x) (Some x) (first_in is xs) (λ o. IfSome o P) (λ _. h.0) (λ _. first-has is P xs h.1)
 
 -- each part has P, or the fault has Q
 abbrev pub EachOf : {X E : Type 0} → (X → Type 0) → (E → Type 0) → Result (List X) E → Type 0
-EachOf P Q (Ok xs) = AllOf P xs
-EachOf P Q (Err f) = Q f
+EachOf P Q r = MatchResult r (AllByRecursion P) Q
 
 -- what comes after a part makes a difference only if the part is without fault
 more_same : {X E : Type 0} {l k : Result (List X) E} (r : Result X E) → ((x : X) → r ≡ Ok x → l ≡ k) → more r l ≡ more r k
 more_same (Err f) h = refl
 more_same (Ok x) h = ap (more (Ok x)) (h x refl)
-
-module _ {X E : Type 0} (is : X → Bool) where
-  pub pick-err : (o : Option X) (f : E) → pick is o (Err f) ≡ Err f
-  pick-err None f = refl
-  pick-err (Some x) f = refl
-
-  pub pick-none : (o : Option X) → pick {E = E} is o (Ok []) ≡ Ok o
-  pick-none None = refl
-  pick-none (Some x) = refl
-
-  pub pick-keep : (x : X) (o : Option X) (r : Result (List X) E) → pick is (keep_first is o x) r ≡ pick is o (more (Ok x) r)
-  pick-keep x (Some y) (Ok xs) = refl
-  pick-keep x (Some y) (Err f) = refl
-  pick-keep x None (Err f) = cond_both (is x) (Some x) None (λ o. pick is o (Err f) ≡ Err f) (λ _. refl) (λ _. refl)
-  pick-keep x None (Ok xs) =
-      cond_both (is x) (Some x) None (λ o. pick {E = E} is o (Ok xs) ≡ Ok (cond (is x) (Some x) (first_in is xs)))
-      (λ h. ap Ok (sym (cond-true _ _ _ h)))
-      (λ h. ap Ok (sym (cond-false _ _ _ h)))
 
 module _ {X E : Type 0} (part : ℕ → Result X E) (end : ℕ → ℕ) (len : ℕ) where
   walk-on : (n p : ℕ) → p < len → walk part end len (suc n) p ≡ more (part p) (walk part end len n (end p))
@@ -61,39 +38,6 @@ module _ {X E : Type 0} (part : ℕ → Result X E) (end : ℕ → ℕ) (len : �
   walk_none : (p : ℕ) → walk part end len zero p ≡ Ok []
   unfolding walk
   walk_none p = refl
-
-  pub step-on : (p : ℕ) → p < len → step part end len p ≡ stepped (part p) (end p) p
-  step-on p h = cond-true _ _ _ (lt-ltb _ _ h)
-
-  pub step_past : (p : ℕ) → len ≤ p → step part end len p ≡ record { found = Ok None; next = p }
-  step_past p h = cond-false _ _ _ (le-ltb _ _ h)
-
-  -- what a call told
-  pub record Gave (p : ℕ) (x : X) : Type 0 where
-    pub more_to_come : p < len
-    pub is : part p ≡ Ok x
-    pub next : (step part end len p).next ≡ end p
-
-  abbrev Told : ℕ → Result (Option X) E → Type 0
-  Told p (Ok (Some x)) = Gave p x
-  Told p (Ok None) = (len ≤ p) × (p ≡ (step part end len p).next)
-  Told p (Err f) = (p < len) × (part p ≡ Err f) × (p ≡ (step part end len p).next)
-
-  told-on : (p : ℕ) (r : Result X E) → p < len → part p ≡ r → Told p (step part end len p).found
-  told-on p (Ok x) h e =
-      let s : step part end len p ≡ record { found = Ok (Some x); next = end p } = step-on p h ∙ ap (λ r. stepped r (end p) p) e in
-      subst (λ t. Told p t.found) (sym s) (record { more_to_come = h; is = e; next = ap (λ t. t.next) s })
-  told-on p (Err f) h e =
-      let s : step part end len p ≡ record { found = Err f; next = p } = step-on p h ∙ ap (λ r. stepped r (end p) p) e in
-      subst (λ t. Told p t.found) (sym s) (h, e, sym (ap (λ t. t.next) s))
-
-  pub told : (p : ℕ) (r : Result (Option X) E) → r ≡ (step part end len p).found → Told p r
-  told p r q =
-      subst (Told p) (sym q)
-      (⊎_elim
-      (λ lt. told-on p (part p) lt refl)
-      (λ past. subst (λ t. Told p t.found) (sym (step_past p past)) (past, sym (ap (λ t. t.next) (step_past p past))))
-      (cases_lt p len))
 
   -- what every part has, a part that was found has
   module _ (is : X → Bool) (P : X → Type 0) (all : (p : ℕ) (x : X) → part p ≡ Ok x → is x ≡ true → P x) where
@@ -144,29 +88,15 @@ module _ {X E : Type 0} (part : ℕ → Result X E) (end : ℕ → ℕ) (len : �
     rest-on : (p : ℕ) → p < len → rest p ≡ more (part p) (rest (end p))
     rest-on p h = enough len (suc len) p (omega arith) (omega arith) ∙ walk-on len p h
 
-    -- what was to come before a call is what the call gave, and then what is to come after it
-    pub rest_read : (p q : ℕ) (r : Result (Option X) E) → r ≡ (step part end len p).found → q ≡ (step part end len p).next → rest p ≡ read_first r (rest q)
-    rest_read p q (Ok (Some x)) e m =
-        let g = told p (Ok (Some x)) e in
-        rest-on p g.more_to_come ∙ ap (λ r. more r (rest (end p))) g.is ∙ ap (λ k. more (Ok x) (rest k)) (sym (m ∙ g.next))
-    rest_read p q (Ok None) e m = walk-past len p (told p (Ok None) e).0
-    rest_read p q (Err f) e m = let g = told p (Err f) e in rest-on p g.0 ∙ ap (λ r. more r (rest (end p))) g.1
+-- the parts from a place on: none at the end, and else the one there, and the parts behind it
+module _ {X E : Type 0} (part : List ℕ → ℕ → Result X E) (end : List ℕ → ℕ → ℕ) where
+  pub none_at_end : (m : List ℕ) (p : ℕ) → length m ≤ p → parts_from part end m p ≡ Ok []
+  none_at_end m p h = walk-past (part m) (end m) (length m) (length m) p h
 
-    -- and there is less to come
-    pub falls : (p q : ℕ) (x : X) → Ok (Some x) ≡ (step part end len p).found → q ≡ (step part end len p).next → len - q < len - p
-    falls p q x e m = let g = told p (Ok (Some x)) e in let h = on p x g.is in omega (arith, m ∙ g.next, g.more_to_come, h)
+  module _ (on : (m : List ℕ) (p : ℕ) (x : X) → part m p ≡ Ok x → p < end m p) where
+    pub part_first : (m : List ℕ) (p q : ℕ) (x : X) → p < length m → Ok x ≡ part m p → q ≡ end m p → parts_from part end m p ≡ more (Ok x) (parts_from part end m q)
+    part_first m p q x h is ends =
+        rest-on (part m) (end m) (length m) (on m) p h ∙ ap (λ r. more r (parts_from part end m (end m p))) (sym is) ∙ ap (λ k. more (Ok x) (parts_from part end m k)) (sym ends)
 
-    -- a call of the reader that stands at p, and at q afterwards
-    pub record Call (p q : ℕ) (r : Result (Option X) E) : Type 0 where
-      pub found : r ≡ (step part end len p).found
-      pub moved : q ≡ (step part end len p).next
-      pub read : rest p ≡ read_first r (rest q)
-
-    pub called : (p q : ℕ) (r : Result (Option X) E) → r ≡ (step part end len p).found → q ≡ (step part end len p).next → Call p q r
-    called p q r found moved = record { found = found; moved = moved; read = rest_read p q r found moved }
-
-    pub at_end : (p : ℕ) → Ok None ≡ (step part end len p).found → Call p p (Ok None)
-    at_end p e = called p p (Ok None) e (told p (Ok None) e).1
-
-    pub at_fault : (p : ℕ) (f : E) → Err f ≡ (step part end len p).found → Call p p (Err f)
-    at_fault p f e = called p p (Err f) e (told p (Err f) e).2
+    pub fault_first : (m : List ℕ) (p : ℕ) (f : E) → p < length m → Err f ≡ part m p → parts_from part end m p ≡ Err f
+    fault_first m p f h is = rest-on (part m) (end m) (length m) (on m) p h ∙ ap (λ r. more r (parts_from part end m (end m p))) (sym is)

@@ -1,19 +1,14 @@
 -- An element that was read lies inside the message. Assumes nothing.
-use Rattle.std.proofs.Common.{◌≡◌, ℕ, ◌-◌, ◌<◌, ◌≤◌, leb, List, length, Some, None, Ok, Err, Option, Result, sym, ap, ◌∙◌, subst, ⊎_elim, arith, length-drop, length-take}
+use Rattle.std.proofs.Common.{◌≡◌, ℕ, ◌≤◌, leb, List, length, Some, None, Ok, Err, Option, Result, sym, ap, ◌∙◌, subst, ⊎_elim, arith, length-drop, length-take}
 use Rattle.std.proofs.lemmas.Bool.{cases_Bool, leb-true, cond-true, cond-false, eqb-true}
-use Rattle.std.proofs.lemmas.Bool.Decides.{nat_tests}
 use Rattle.std.specs.Option.{option_map}
 use Rattle.nas.specs.declared.element.Element.{Element}
 use Rattle.nas.specs.declared.fault.ElementFault.{ElementFault}
 use Rattle.nas.specs.declared.fault.ElementFault.TheVariants.{Cut}
-use Rattle.nas.specs.Elements.{Elem, element, end_at, whole_at, element_at, element_step, elements, end_of, header_of, tagged}
+use Rattle.nas.specs.Elements.{Elem, element, end_at, whole_at, element_at, elements, end_of, header_of, tagged}
 use Rattle.nas.specs.Walk.{first}
-use Rattle.nas.specs.Outcomes.{IfFound}
-use Rattle.nas.proofs.Walks as walks
+use Rattle.nas.specs.Outcomes.{IfFound, seen}
 use Rattle.nas.proofs.Walks.{found_has}
-
-pub goes_on : (m : List ℕ) (p : ℕ) → p < end_at m p
-goes_on m p = grind (arith, nat_tests)
 
 -- an element that was read is the one there, and all of it is
 pub record Whole (m : List ℕ) (p : ℕ) (e : Elem) : Type 0 where
@@ -34,22 +29,6 @@ whole m p e q =
     (λ t. let z : ◌≡◌ {A = ℕ} 0 1 = cc (cond-false {A = Result Elem ElementFault} (leb (end_at m p) (length m)) (Ok (whole_at m p)) (Err (Cut p)) t) in absurd (omega arith))
     (cases_Bool (leb (end_at m p) (length m)))
 
-module _ (m : List ℕ) (p : ℕ) where
-  abbrev Call : ℕ → Result (Option Elem) ElementFault → Type 0
-  Call q r = walks.Call (element_at m) (end_at m) (length m) (λ p x e. goes_on m p) p q r
-
-  pub called : (q : ℕ) (r : Result (Option Elem) ElementFault) → r ≡ (element_step m p).found → q ≡ (element_step m p).next → Call q r
-  called q r = walks.called (element_at m) (end_at m) (length m) (λ p x e. goes_on m p) p q r
-
-  pub at_end : Ok None ≡ (element_step m p).found → Call p (Ok None)
-  at_end = walks.at_end (element_at m) (end_at m) (length m) (λ p x e. goes_on m p) p
-
-  pub at_cut : (f : ElementFault) → Err f ≡ (element_step m p).found → Call p (Err f)
-  at_cut = walks.at_fault (element_at m) (end_at m) (length m) (λ p x e. goes_on m p) p
-
-  pub less : (q : ℕ) (x : Elem) → Ok (Some x) ≡ (element_step m p).found → q ≡ (element_step m p).next → length m - q < length m - p
-  less q x = walks.falls (element_at m) (end_at m) (length m) (λ p x e. goes_on m p) p q x
-
 -- an element that was found has the tag that was looked for, and stands whole somewhere in the message
 pub record Found (t : ℕ) (m : List ℕ) (e : Elem) : Type 0 where
   pub place : ℕ
@@ -68,6 +47,7 @@ pub found_header : (t : ℕ) (m : List ℕ) (e : Elem) → Found t m e → e.hea
 found_header t m e f = ap (λ x. x.header) f.there.is ∙ ap header_of (sym (ap (λ x. x.tag) f.there.is) ∙ f.tag)
 
 -- what a search of the program found lies inside
-pub search_inside : (t : ℕ) (m : List ℕ) (p : ℕ) (o : Option Element) → ◌≡◌ {A = Result (Option Elem) ElementFault} (Ok (option_map element o)) (first (tagged t) (elements m p)) → IfFound {E = ElementFault} (λ e. end_of (element e) ≤ length m) (Ok o)
-search_inside t m p (Some e) q = found_inside t m (element e) (found t m p (element e) q)
-search_inside t m p None q = tt
+pub search_inside : (t : ℕ) (m : List ℕ) (p : ℕ) (r : Result (Option Element) ElementFault) → seen (option_map element) r ≡ first (tagged t) (elements m p) → IfFound (λ e. end_of (element e) ≤ length m) r
+search_inside t m p (Ok (Some e)) q = found_inside t m (element e) (found t m p (element e) q)
+search_inside t m p (Ok None) q = tt
+search_inside t m p (Err f) q = tt

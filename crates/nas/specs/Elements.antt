@@ -1,12 +1,13 @@
 -- The information elements of a message, by their places in it. Assumes nothing.
-use Rattle.std.specs.Prelude.{ℕ, ◌+◌, Bool, cond, List, [], length, Ok, Err, Result, ◌==◌, nat_le, slice_index}
+use Rattle.std.specs.Prelude.{ℕ, ◌+◌, ◌<◌, ◌≤◌, Bool, cond, List, [], length, Ok, Err, Result, ◌==◌, nat_le, slice_index}
+use Rattle.std.proofs.Common.{arith}
+use Rattle.std.proofs.lemmas.Bool.{cond_both}
 use Rattle.nas.specs.declared.element.Element.{Element}
 use Rattle.nas.specs.declared.element.Element.TheVariants.{OneOctet, Rand, Tlv, TlvE}
 use Rattle.nas.specs.declared.fault.ElementFault.{ElementFault}
 use Rattle.nas.specs.declared.fault.ElementFault.TheVariants.{Cut}
-use Rattle.nas.specs.declared.elements.Elements.{Elements}
 use Rattle.nas.specs.Parts.{Field, cut, two_bytes}
-use Rattle.nas.specs.Walk.{walk, step, Step}
+use Rattle.nas.specs.Walk.{walk}
 
 -- an element: its tag (the information element identifier), the tag's place, how many bytes stand before its value, and the value
 pub record Elem : Type 0 where
@@ -52,13 +53,6 @@ element_at m p = cond (nat_le (end_at m p) (length m)) (Ok (whole_at m p)) (Err 
 abbrev pub elements : List ℕ → ℕ → Result (List Elem) ElementFault
 elements m p = walk (element_at m) (end_at m) (length m) (length m) p
 
-abbrev pub element_step : List ℕ → ℕ → Step Elem ElementFault
-element_step m p = step (element_at m) (end_at m) (length m) p
-
--- what a reader has still to give
-abbrev pub unread : Elements → Result (List Elem) ElementFault
-unread r = elements r.msg.now r.at
-
 abbrev pub tagged : ℕ → Elem → Bool
 tagged t e = e.tag == t
 
@@ -71,3 +65,12 @@ at_tag e = record { place = e.place; octets = e.value }
 
 abbrev pub end_of : Elem → ℕ
 end_of e = e.place + e.header + length e.value
+
+-- no element is empty
+some_header : (t : ℕ) → 1 ≤ header_of t
+some_header t =
+    cond_both (nat_le 0x80 t) _ _ (λ n. 1 ≤ n) (λ _. omega arith)
+    (λ _. cond_both (t == 0x21) _ _ (λ n. 1 ≤ n) (λ _. omega arith) (λ _. cond_both (nat_le 0x70 t) 3 2 (λ n. 1 ≤ n) (λ _. omega arith) (λ _. omega arith)))
+
+pub goes_on : (m : List ℕ) (p : ℕ) → p < end_at m p
+goes_on m p = omega (arith, some_header (slice_index m p))

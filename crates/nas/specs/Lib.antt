@@ -6,6 +6,7 @@ pub mod Names
 pub mod Outcomes
 pub mod Packets
 pub mod Parts
+pub mod Reading
 pub mod Replies
 pub mod Sound
 pub mod Walk

@@ -1,6 +1,7 @@
 -- The name of a serving network: 5G:mnc, three digits, .mcc, three digits, .3gppnetwork.org, and for a private network a colon and eleven digits. Assumes nothing.
-use Rattle.std.specs.Prelude.{ℕ, ◌+◌, Bool, true, cond, ◌&&◌, ◌||◌, List, [], ◌∷◌, length, Some, None, codes, Option, ◌==◌, nat_le, slice_index}
+use Rattle.std.specs.Prelude.{ℕ, ◌+◌, Bool, cond, ◌&&◌, ◌||◌, List, length, Some, None, codes, Option, ◌==◌, nat_le, slice_index}
 use Rattle.std.specs.Bool.{then_some}
+use Rattle.std.specs.List.{list_all}
 use Rattle.std.specs.Str.{bytes_eq}
 use Rattle.nas.specs.declared.name.Base.{Base}
 use Rattle.nas.specs.declared.name.Base.TheVariants.{Decimal, Hexadecimal}
@@ -14,8 +15,7 @@ is_digit Decimal b = nat_le 0x30 b && nat_le b 0x39
 is_digit Hexadecimal b = (nat_le 0x30 b && nat_le b 0x39) || (nat_le 0x41 b && nat_le b 0x46)
 
 abbrev pub all_digits : Base → List ℕ → Bool
-all_digits base [] = true
-all_digits base (b ∷ s) = is_digit base b && all_digits base s
+all_digits base s = list_all (λ b. is_digit base b) s
 
 -- the text t at place p, with three digits after it
 abbrev pub labelled : List ℕ → ℕ → List ℕ → Bool

@@ -1,12 +1,8 @@
 -- What the device writes: EAP responses of RFC 3748, and AUTHENTICATION RESPONSE of TS 24.501. Assumes nothing.
-use Rattle.std.specs.Prelude.{ℕ, ◌+◌, ◌/◌, ◌%◌, Bool, cond, ◌&&◌, List, [], ◌∷◌, ◌++◌, length, take, drop, Some, None, Option, nat_le}
+use Rattle.std.specs.Prelude.{ℕ, ◌+◌, ◌/◌, ◌%◌, Bool, cond, ◌&&◌, List, [], ◌∷◌, ◌++◌, length, drop, Some, None, Option, nat_le}
 use Rattle.nas.specs.declared.reply.Response.{Response}
 use Rattle.nas.specs.declared.reply.Response.TheVariants.{Identity, Notification, Nak}
 use Rattle.nas.specs.Parts.{cut}
-
--- the buffer out with xs from place p on
-abbrev pub over : ℕ → List ℕ → List ℕ → List ℕ
-over p xs out = take p out ++ (xs ++ drop (p + length xs) out)
 
 -- code 2, identifier, length of the whole packet, type, body
 abbrev pub response_packet : ℕ → ℕ → List ℕ → List ℕ

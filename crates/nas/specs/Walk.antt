@@ -1,5 +1,5 @@
 -- A walk through parts that lie one after another, each of which says where it ends. Assumes nothing.
-use Rattle.std.specs.Prelude.{ℕ, zero, suc, Bool, cond, List, [], ◌∷◌, Some, None, Ok, Err, Option, Result, nat_lt}
+use Rattle.std.specs.Prelude.{ℕ, zero, suc, Bool, cond, List, [], ◌∷◌, length, Some, None, Ok, Err, Option, Result, nat_lt}
 
 -- one part before others, if all are without fault
 abbrev pub more : {X E : Type 0} → Result X E → Result (List X) E → Result (List X) E
@@ -24,16 +24,18 @@ stepped (Err f) q p = record { found = Err f; next = p }
 abbrev pub step : {X E : Type 0} → (ℕ → Result X E) → (ℕ → ℕ) → ℕ → ℕ → Step X E
 step part end len p = cond (nat_lt p len) (stepped (part p) (end p) p) (record { found = Ok None; next = p })
 
+-- the parts of m from a place on, where each says where it ends; there are no more of them than bytes
+abbrev pub parts_from : {X E : Type 0} → (List ℕ → ℕ → Result X E) → (List ℕ → ℕ → ℕ) → List ℕ → ℕ → Result (List X) E
+parts_from part end m p = walk (part m) (end m) (length m) (length m) p
+
+abbrev pub part_step : {X E : Type 0} → (List ℕ → ℕ → Result X E) → (List ℕ → ℕ → ℕ) → List ℕ → ℕ → Step X E
+part_step part end m p = step (part m) (end m) (length m) p
+
 -- the parts still to come before a call, from what the call gave and the parts still to come after it
 abbrev pub read_first : {X E : Type 0} → Result (Option X) E → Result (List X) E → Result (List X) E
 read_first (Ok (Some x)) r = more (Ok x) r
 read_first (Ok None) r = Ok []
 read_first (Err f) r = Err f
-
--- what was found, or else this part if it is of the kind
-abbrev pub keep_first : {X : Type 0} → (X → Bool) → Option X → X → Option X
-keep_first is (Some y) x = Some y
-keep_first is None x = cond (is x) (Some x) None
 
 -- the first part of this kind, if all are without fault
 abbrev pub first_in : {X : Type 0} → (X → Bool) → List X → Option X

@@ -3,6 +3,7 @@ ghost use Rattle.std.specs.Prelude.{◌≡◌, [], ◌∷◌, Some, None, codes}
 ghost use Rattle.nas.specs.declared.name.NetworkKind.TheVariants.{Private, Public};
 ghost use Rattle.nas.specs.Cases.{Fails, Named, Refused};
 
+#[tactic(auto, unfolding(crate::specs::Messages::read_message, crate::specs::Names::network_kind, crate::specs::Walk::walk))]
 pub fn worked_cases()
     ensures empty { Refused [] 6 2 0 }
     ensures kind { Refused (0x7E ∷ 0x00 ∷ 0x57 ∷ []) 7 2 2 }

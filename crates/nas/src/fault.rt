@@ -1,9 +1,12 @@
 // What can be wrong with a message: the fault of each layer stands inside the fault of the layer above.
 ghost use Rattle.std.specs.Prelude.{◌≡◌, ℕ};
-ghost use Rattle.nas.specs.declared.fault.MessageFault.TheVariants.{InElement, InPacket};
+ghost use Rattle.nas.specs.declared.fault.MessageFault.TheVariants.{InElement, InPacket, WrongType};
 ghost use Rattle.nas.specs.Faults.{layer_of, number_of, place_of};
 
-// What a method finds wrong with a packet: a number, and a place inside the packet.
+use crate::message::UnknownType;
+
+// What a method finds wrong with a packet: a number, and a place inside the packet. The device reports the number as it is, so
+// each fault tells its own.
 pub trait MethodFault {
     ghost number: { Self → ℕ };
 
@@ -17,7 +20,7 @@ pub trait MethodFault {
 }
 
 // The fault of a reader that has no method: nothing makes one.
-#[derive(Clone, Copy)]
+#[derive(Clone, Copy, Debug, PartialEq, Eq)]
 pub struct NoMethod(());
 
 impl MethodFault for NoMethod {
@@ -34,21 +37,21 @@ impl MethodFault for NoMethod {
     }
 }
 
-#[derive(Clone, Copy)]
+#[derive(Clone, Copy, Debug, PartialEq, Eq)]
 pub enum ElementFault {
     // It passes the message's end; its first byte stands here.
     Cut { at: usize },
 }
 
 // The place is that of the packet's first byte.
-#[derive(Clone, Copy)]
+#[derive(Clone, Copy, Debug, PartialEq, Eq)]
 pub enum PacketFault<F> {
     WrongLength { at: u16 },
     WrongCode { at: u16 },
     InMethod { at: u16, fault: F },
 }
 
-#[derive(Clone, Copy)]
+#[derive(Clone, Copy, Debug, PartialEq, Eq)]
 pub enum MessageFault<F> {
     // Not 3 to 2,048 bytes that start 7E 00.
     WrongHeader,
@@ -60,6 +63,14 @@ pub enum MessageFault<F> {
     NoKeySet,
     // The ABBA is missing or too short.
     WrongAbba { at: u16 },
+}
+
+impl<F> From<UnknownType> for MessageFault<F> {
+    ghost from_gives = { λ _ r. r ≡ WrongType };
+
+    fn from(_: UnknownType) -> MessageFault<F> {
+        MessageFault::WrongType
+    }
 }
 
 impl<F> From<ElementFault> for MessageFault<F> {
@@ -90,12 +101,11 @@ impl<F: MethodFault> MessageFault<F> {
             MessageFault::InPacket(PacketFault::WrongLength { .. }) => 10,
             MessageFault::InPacket(PacketFault::WrongCode { .. }) => 11,
             MessageFault::InPacket(PacketFault::InMethod { fault, .. }) => fault.number(),
-            MessageFault::NoKeySet => 12,
-            MessageFault::WrongAbba { .. } => 12,
+            MessageFault::NoKeySet | MessageFault::WrongAbba { .. } => 12,
         }
     }
 
-    // The layer that refuses: 2 the message, 3 the EAP packet, 4 the method.
+    // The layer that refuses: 2 the message, 3 the EAP packet, 4 the method. Stays a number: programs print it as it is.
     pub fn layer(&self) -> u8
         ensures { result ≡ layer_of self.now }
     {
@@ -114,14 +124,15 @@ impl<F: MethodFault> MessageFault<F> {
             MessageFault::WrongHeader => 0,
             MessageFault::WrongType => 2,
             MessageFault::InElement(ElementFault::Cut { at }) => *at,
-            MessageFault::NoEapMessage { at } => *at as usize,
-            MessageFault::InPacket(PacketFault::WrongLength { at }) => *at as usize,
-            MessageFault::InPacket(PacketFault::WrongCode { at }) => *at as usize,
+            MessageFault::NoEapMessage { at }
+            | MessageFault::InPacket(
+                PacketFault::WrongLength { at } | PacketFault::WrongCode { at },
+            )
+            | MessageFault::WrongAbba { at } => usize::from(*at),
             MessageFault::InPacket(PacketFault::InMethod { at, fault }) => {
-                *at as usize + fault.place() as usize
+                usize::from(*at) + usize::from(fault.place())
             }
             MessageFault::NoKeySet => 3,
-            MessageFault::WrongAbba { at } => *at as usize,
         }
     }
 }

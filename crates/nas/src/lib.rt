@@ -9,6 +9,7 @@ mod message;
 mod name;
 mod packet;
 mod part;
+mod reader;
 mod reply;
 
 pub use cases::worked_cases;
@@ -19,4 +20,5 @@ pub use message::{Message, read};
 pub use name::{NetworkKind, network_kind};
 pub use packet::{Code, Packet};
 pub use part::Part;
+pub use reader::{Readable, Reader};
 pub use reply::{Response, frame_reply, write_response};

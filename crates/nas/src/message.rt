@@ -1,9 +1,10 @@
 // The network's authentication messages, whose parts stay where they lie.
 ghost use Rattle.std.specs.Prelude.{◌≡◌, ◌+◌, ◌≤◌, IfErr, length};
 ghost use Rattle.std.specs.Option.{option_map};
-ghost use Rattle.nas.specs.Elements.{unread};
+ghost use Rattle.std.specs.Result.{result_ok};
+ghost use Rattle.nas.specs.Reading.{unread};
 ghost use Rattle.nas.specs.Faults.{IsOwn};
-ghost use Rattle.nas.specs.Messages.{contents, contents_of, fixed, fixed_in, for_keys, lv_at, lv_e_at, mandatory, message_type_of, ngksi_of, read_message, reject_of, request_of, result_of, start_of};
+ghost use Rattle.nas.specs.Messages.{contents, contents_of, fixed, fixed_in, for_keys, mandatory, message_type_of, ngksi_of, read_message, reject_of, request_of, result_of, start_of};
 ghost use Rattle.nas.specs.Outcomes.{IfRead, seen};
 ghost use Rattle.nas.specs.Parts.{field};
 ghost use Rattle.nas.specs.Sound.{Sound};
@@ -11,7 +12,8 @@ ghost use Rattle.nas.specs.Sound.{Sound};
 use crate::elements::Elements;
 use crate::fault::{ElementFault, MessageFault};
 use crate::packet::{Code, Packet, read_packet};
-use crate::part::Part;
+use crate::part::{Part, lv, lv_e};
+use crate::reader::Reader;
 
 // AUTHENTICATION REQUEST, RESULT and REJECT of TS 24.501.
 #[derive(Clone, Copy)]
@@ -23,7 +25,7 @@ pub enum MessageType {
 
 // A result is a success or a failure by its packet's code.
 // The ABBA has the place of its length byte in a request, and of its tag in a success.
-#[derive(Clone, Copy)]
+#[derive(Clone, Copy, Debug, PartialEq, Eq)]
 pub enum Message<'a> {
     Request {
         ngksi: u8,
@@ -57,8 +59,6 @@ pub(crate) const EPD: u8 = 0x7e;
 // The security header type of a message that is not protected.
 pub(crate) const PLAIN: u8 = 0x00;
 
-const MIN_LEN: usize = 3;
-
 const MAX_LEN: usize = 2048;
 
 pub(crate) const EAP_MESSAGE: u8 = 0x78;
@@ -70,53 +70,30 @@ const NO_KEY_SET: u8 = 7;
 
 const ABBA_MIN_LEN: usize = 2;
 
-fn message_type(byte: u8) -> Option<MessageType>
-    ensures { result ≡ message_type_of byte }
-{
-    match byte {
-        0x56 => Some(MessageType::Request),
-        0x5a => Some(MessageType::Result),
-        0x58 => Some(MessageType::Reject),
-        _ => None,
+// A byte that stands for none of the types.
+#[derive(Clone, Copy)]
+pub struct UnknownType(());
+
+impl TryFrom<u8> for MessageType {
+    type Error = UnknownType;
+
+    ghost try_from_gives = { λ byte r. result_ok r ≡ message_type_of byte };
+
+    fn try_from(byte: u8) -> Result<MessageType, UnknownType> {
+        match byte {
+            0x56 => Ok(MessageType::Request),
+            0x5a => Ok(MessageType::Result),
+            0x58 => Ok(MessageType::Reject),
+            _ => Err(UnknownType(())),
+        }
     }
 }
 
 fn read_ngksi(msg: &[u8]) -> Result<u8, ElementFault>
     ensures { result ≡ ngksi_of msg.now }
 {
-    if msg.len() < 4 {
-        return Err(ElementFault::Cut { at: 3 });
-    }
-    Ok(msg[3] % 16)
-}
-
-// Format LV at byte 4: a value behind one length byte, with the place of that byte.
-fn read_lv<'a>(msg: &'a [u8]) -> Result<Part<'a>, ElementFault>
-    ensures value { seen field result ≡ lv_at msg.now 4 }
-    ensures inside { IfRead (λ p. 5 + length p.bytes.now ≤ length msg.now) result }
-{
-    if msg.len() < 5 || msg.len() - 5 < msg[4] as usize {
-        return Err(ElementFault::Cut { at: 4 });
-    }
-    let size = msg[4] as usize;
-    let bytes = &msg[5..5 + size];
-    Ok(Part { at: 4, bytes })
-}
-
-// Format LV-E at byte 4: a value behind two length bytes, with the place of its own first byte.
-fn read_lv_e<'a>(msg: &'a [u8]) -> Result<Part<'a>, ElementFault>
-    ensures value { seen field result ≡ lv_e_at msg.now 4 }
-    ensures inside { IfRead (λ p. 6 + length p.bytes.now ≤ length msg.now) result }
-{
-    if msg.len() < 6 {
-        return Err(ElementFault::Cut { at: 4 });
-    }
-    let size = msg[4] as usize * 256 + msg[5] as usize;
-    if msg.len() - 6 < size {
-        return Err(ElementFault::Cut { at: 4 });
-    }
-    let bytes = &msg[6..6 + size];
-    Ok(Part { at: 6, bytes })
+    let ngksi = msg.get(3).ok_or(ElementFault::Cut { at: 3 })?;
+    Ok(*ngksi % 16)
 }
 
 impl<'a> Mandatory<'a> {
@@ -128,12 +105,20 @@ impl<'a> Mandatory<'a> {
         match message_type {
             MessageType::Request => {
                 let ngksi = read_ngksi(msg)?;
-                let abba = read_lv(msg)?;
+                let bytes = msg
+                    .get(4..)
+                    .and_then(lv)
+                    .ok_or(ElementFault::Cut { at: 4 })?;
+                let abba = Part { at: 4, bytes };
                 Ok(Mandatory::Request { ngksi, abba })
             }
             MessageType::Result => {
                 let ngksi = read_ngksi(msg)?;
-                let eap = read_lv_e(msg)?;
+                let bytes = msg
+                    .get(4..)
+                    .and_then(lv_e)
+                    .ok_or(ElementFault::Cut { at: 4 })?;
+                let eap = Part { at: 6, bytes };
                 Ok(Mandatory::Result { ngksi, eap })
             }
             MessageType::Reject => Ok(Mandatory::Reject),
@@ -159,16 +144,18 @@ pub(crate) fn read_mandatory<'a, F>(msg: &'a [u8]) -> Result<Mandatory<'a>, Mess
     ensures inside { IfRead (λ h. start_of (fixed h) ≤ length msg.now) result }
     ensures short { IfRead (λ _. length msg.now ≤ 2048) result }
 {
-    if msg.len() < MIN_LEN || msg.len() > MAX_LEN || msg[0] != EPD || msg[1] != PLAIN {
+    let [EPD, PLAIN, message_type, ..] = msg else {
+        return Err(MessageFault::WrongHeader);
+    };
+    if msg.len() > MAX_LEN {
         return Err(MessageFault::WrongHeader);
     }
-    let Some(message_type) = message_type(msg[2]) else {
-        return Err(MessageFault::WrongType);
-    };
+    let message_type = MessageType::try_from(*message_type)?;
     Ok(Mandatory::read(message_type, msg)?)
 }
 
 // The ABBA, if keys can be made with it and with the key set.
+// Stays `let .. else`, as where the EAP message is missing: `ok_or` would ask that a method's fault may be dropped.
 fn check_keys<'a, F>(
     ngksi: u8,
     abba: Option<Part<'a>>,
@@ -193,11 +180,10 @@ fn read_request<'a, F>(
     ngksi: u8,
     abba: Part<'a>,
 ) -> Result<Message<'a>, MessageFault<F>>
-    requires { length elements.msg.now ≤ 2048 }
-    ensures { seen contents result ≡ request_of ngksi (field abba.entry) (unread elements.entry) (length elements.entry.msg.now) }
+    ensures { seen contents result ≡ request_of ngksi (field abba.entry) (unread elements.entry) (length elements.entry.bytes.now) }
 {
-    let len = elements.msg.len() as u16;
-    let Some(eap) = elements.find(EAP_MESSAGE)? else {
+    let len = elements.len();
+    let Some(eap) = elements.with_tag(EAP_MESSAGE)? else {
         return Err(MessageFault::NoEapMessage { at: len });
     };
     let packet = read_packet(MessageType::Request, eap.value())?;
@@ -214,18 +200,14 @@ fn read_result<'a, F>(
     ngksi: u8,
     eap: Part<'a>,
 ) -> Result<Message<'a>, MessageFault<F>>
-    requires { length elements.msg.now ≤ 2048 }
-    ensures { seen contents result ≡ result_of ngksi (field eap.entry) (unread elements.entry) (length elements.entry.msg.now) }
+    ensures { seen contents result ≡ result_of ngksi (field eap.entry) (unread elements.entry) (length elements.entry.bytes.now) }
 {
-    let len = elements.msg.len() as u16;
-    let found = elements.find(ABBA)?;
+    let len = elements.len();
+    let found = elements.with_tag(ABBA)?;
     let packet = read_packet(MessageType::Result, eap)?;
     match packet.code {
         Code::Success => {
-            let abba = match found {
-                Some(element) => Some(element.at_tag()),
-                None => None,
-            };
+            let abba = found.map(|element| element.at_tag());
             let abba = check_keys(ngksi, abba, len)?;
             Ok(Message::Success {
                 ngksi,
@@ -238,10 +220,9 @@ fn read_result<'a, F>(
 }
 
 fn read_reject<'a, F>(elements: Elements<'a>) -> Result<Message<'a>, MessageFault<F>>
-    requires { length elements.msg.now ≤ 2048 }
     ensures { seen contents result ≡ reject_of (unread elements.entry) }
 {
-    let Some(eap) = elements.find(EAP_MESSAGE)? else {
+    let Some(eap) = elements.with_tag(EAP_MESSAGE)? else {
         return Ok(Message::Reject { packet: None });
     };
     let packet = read_packet(MessageType::Reject, eap.value())?;
@@ -255,8 +236,7 @@ fn read_elements<'a, F>(
     mandatory: Mandatory<'a>,
     elements: Elements<'a>,
 ) -> Result<Message<'a>, MessageFault<F>>
-    requires { length elements.msg.now ≤ 2048 }
-    ensures { seen contents result ≡ contents_of (fixed mandatory.entry) (unread elements.entry) (length elements.entry.msg.now) }
+    ensures { seen contents result ≡ contents_of (fixed mandatory.entry) (unread elements.entry) (length elements.entry.bytes.now) }
 {
     match mandatory {
         Mandatory::Request { ngksi, abba } => read_request(elements, ngksi, abba),
@@ -266,12 +246,13 @@ fn read_elements<'a, F>(
 }
 
 // Reads a whole message, or says which question it fails first, and where.
+#[tactic(auto, unfolding(crate::specs::Messages::read_message))]
 pub fn read<'a, F>(msg: &'a [u8]) -> Result<Message<'a>, MessageFault<F>>
     ensures value { seen contents result ≡ read_message msg.now }
     ensures sound { IfRead (Sound msg.now) (seen contents result) }
     ensures own { IfErr result IsOwn }
 {
     let mandatory = read_mandatory(msg)?;
-    let at = mandatory.end();
-    read_elements(mandatory, Elements { msg, at })
+    let elements = Reader::of(msg, mandatory.end());
+    read_elements(mandatory, elements)
 }

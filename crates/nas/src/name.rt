@@ -5,7 +5,7 @@ ghost use Rattle.nas.specs.Names.{all_digits, is_digit, labelled, network_kind, 
 ghost use Rattle.nas.specs.Parts.{cut};
 
 // A private network is a stand-alone non-public network (SNPN): its name ends with a network identifier (NID).
-#[derive(Clone, Copy)]
+#[derive(Clone, Copy, Debug, PartialEq, Eq)]
 pub enum NetworkKind {
     Public,
     Private,
@@ -25,20 +25,15 @@ fn is_digit(base: Base, b: u8) -> bool
     ensures { result ≡ is_digit base b }
 {
     match base {
-        Base::Decimal => b >= b'0' && b <= b'9',
-        Base::Hexadecimal => b >= b'0' && b <= b'9' || b >= b'A' && b <= b'F',
+        Base::Decimal => b.is_ascii_digit(),
+        Base::Hexadecimal => matches!(b, b'0'..=b'9' | b'A'..=b'F'),
     }
 }
 
 fn all_digits(base: Base, s: &[u8]) -> bool
     ensures { result ≡ all_digits base s.now }
 {
-    for b in s {
-        if !is_digit(base, *b) {
-            return false;
-        }
-    }
-    true
+    s.iter().all(|b| is_digit(base, *b))
 }
 
 // Whether the text stands in the name at this place.
@@ -63,10 +58,9 @@ fn has_plmn(name: &[u8]) -> bool
     requires { 32 ≤ length name.now }
     ensures { result ≡ plmn_name name.now }
 {
-    if !is_labelled(name, 0, b"5G:mnc") || !is_labelled(name, 9, b".mcc") {
-        return false;
-    }
-    stands(name, 16, b".3gppnetwork.org")
+    is_labelled(name, 0, b"5G:mnc")
+        && is_labelled(name, 9, b".mcc")
+        && stands(name, 16, b".3gppnetwork.org")
 }
 
 // Whether a colon and a network identifier of eleven digits follow.
@@ -78,6 +72,7 @@ fn has_nid(name: &[u8]) -> bool
 }
 
 // What kind of network has this name, if it is a serving network's name.
+#[tactic(auto, unfolding(crate::specs::Names::network_kind))]
 pub fn network_kind(name: &[u8]) -> Option<NetworkKind>
     ensures { result ≡ network_kind name.now }
 {

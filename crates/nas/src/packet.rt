@@ -9,7 +9,7 @@ use crate::message::MessageType;
 use crate::part::Part;
 
 // The codes that the network sends.
-#[derive(Clone, Copy)]
+#[derive(Clone, Copy, Debug, PartialEq, Eq)]
 pub enum Code {
     Request,
     Success,
@@ -17,7 +17,7 @@ pub enum Code {
 }
 
 // The part is the whole packet, with the place of its first byte.
-#[derive(Clone, Copy)]
+#[derive(Clone, Copy, Debug, PartialEq, Eq)]
 pub struct Packet<'a> {
     pub code: Code,
     pub identifier: u8,
@@ -40,8 +40,9 @@ fn code_in(message_type: MessageType, code: u8, len: usize) -> Option<Code>
     match message_type {
         MessageType::Request if code == REQUEST && len > HEADER_LEN => Some(Code::Request),
         MessageType::Result if code == SUCCESS && len == HEADER_LEN => Some(Code::Success),
-        MessageType::Result if code == FAILURE && len == HEADER_LEN => Some(Code::Failure),
-        MessageType::Reject if code == FAILURE && len == HEADER_LEN => Some(Code::Failure),
+        MessageType::Result | MessageType::Reject if code == FAILURE && len == HEADER_LEN => Some(
+            Code::Failure,
+        ),
         _ => None,
     }
 }
@@ -55,7 +56,7 @@ pub(crate) fn read_packet<'a, F>(
     let [code, identifier, high, low, ..] = part.bytes else {
         return Err(PacketFault::WrongLength { at: part.at });
     };
-    let own = *high as usize * 256 + *low as usize;
+    let own = usize::from(u16::from_be_bytes([*high, *low]));
     if own != part.bytes.len() {
         return Err(PacketFault::WrongLength { at: part.at });
     }

@@ -1,11 +1,11 @@
 // Writes what the device sends into a buffer that is lent; bytes that are not written stay as they were.
-ghost use Rattle.std.specs.Prelude.{◌≡◌, ◌+◌, ◌≤◌, length};
-ghost use Rattle.nas.specs.Replies.{framed, framed_length, over, response, response_packet, written, written_length};
+ghost use Rattle.std.specs.Prelude.{◌≡◌};
+ghost use Rattle.nas.specs.Replies.{framed, framed_length, response, response_packet, written, written_length};
 
 use crate::message::{EAP_MESSAGE, EPD, PLAIN};
 
 // The EAP responses that are given without the method.
-#[derive(Clone, Copy)]
+#[derive(Clone, Copy, Debug, PartialEq, Eq)]
 pub enum Response<'a> {
     Identity { suci: &'a [u8] },
     Notification,
@@ -30,36 +30,19 @@ const PACKET_HEADER: usize = 5;
 // The plain header, the type of AUTHENTICATION RESPONSE, and the tag and length of the EAP message.
 const MESSAGE_HEADER: usize = 6;
 
-// The most that a two-byte length tells.
-const MAX_PACKET: usize = 65_535;
-
-// Writes `bytes` into `out` from `at` on.
-fn put(out: &mut [u8], at: usize, bytes: &[u8])
-    requires { at + length bytes.now ≤ length out.old }
-    ensures { out.new ≡ over at bytes.now out.old }
-{
-    out[at..at + bytes.len()].copy_from_slice(bytes);
-}
-
 // Writes the packet of a response of any type to the start of `out` and tells its length; a packet that does not fit is not
 // written.
 pub fn write_response(identifier: u8, eap_type: u8, body: &[u8], out: &mut [u8]) -> Option<usize>
     ensures answer { result ≡ written_length (response_packet identifier eap_type body.now) out.old }
     ensures bytes { out.new ≡ written (response_packet identifier eap_type body.now) out.old }
 {
-    if body.len() > MAX_PACKET - PACKET_HEADER || body.len() + PACKET_HEADER > out.len() {
+    let len = body.len() + PACKET_HEADER;
+    let [high, low] = u16::try_from(len).ok()?.to_be_bytes();
+    if len > out.len() {
         return None;
     }
-    let len = body.len() + PACKET_HEADER;
-    let header = [
-        RESPONSE,
-        identifier,
-        (len / 256) as u8,
-        (len % 256) as u8,
-        eap_type,
-    ];
-    put(out, 0, &header);
-    put(out, PACKET_HEADER, body);
+    out[..PACKET_HEADER].copy_from_slice(&[RESPONSE, identifier, high, low, eap_type]);
+    out[PACKET_HEADER..len].copy_from_slice(body);
     Some(len)
 }
 
@@ -78,21 +61,16 @@ impl Response<'_> {
 }
 
 // Makes an AUTHENTICATION RESPONSE of the packet that stands at byte 6, and tells the message's length.
+#[tactic(auto, using(crate::proofs::Writes::reply_framed))]
 pub fn frame_reply(buffer: &mut [u8], packet_len: usize) -> Option<usize>
     ensures answer { result ≡ framed_length packet_len buffer.old }
     ensures bytes { buffer.new ≡ framed packet_len buffer.old }
 {
-    if packet_len > MAX_PACKET || packet_len + MESSAGE_HEADER > buffer.len() {
+    let [high, low] = u16::try_from(packet_len).ok()?.to_be_bytes();
+    if packet_len + MESSAGE_HEADER > buffer.len() {
         return None;
     }
-    let header = [
-        EPD,
-        PLAIN,
-        AUTHENTICATION_RESPONSE,
-        EAP_MESSAGE,
-        (packet_len / 256) as u8,
-        (packet_len % 256) as u8,
-    ];
-    put(buffer, 0, &header);
+    let header = [EPD, PLAIN, AUTHENTICATION_RESPONSE, EAP_MESSAGE, high, low];
+    buffer[..MESSAGE_HEADER].copy_from_slice(&header);
     Some(packet_len + MESSAGE_HEADER)
 }

@@ -1,14 +1,13 @@
 // The commands of a script: what a line asks for.
-ghost use Rattle.std.specs.Prelude.{◌≡◌, true, IfSome, IfOk};
-ghost use Rattle.script.specs.declared.commands.Stage.{Stage};
+ghost use Rattle.std.specs.Prelude.{◌≡◌, Bool, true, IfSome, IfOk};
+ghost use Rattle.script.specs.Questions.{needs_no_method};
 ghost use Rattle.script.specs.Stages.{fits};
 
-use crate::methods::{Start, Use, block, card, card_row, clear, method_row, process, scripted};
-use crate::names::CommandName;
-use crate::questions::{decode, derive, help, hmac, sha256, snn};
+use crate::methods::{Start, Use, bare, card, card_row, method_row, process, scripted};
+use crate::names::{CommandName, Listed, MethodCommand, Question};
 use crate::refusal::{Quoted, Refusal};
 use crate::words::Words;
-use answers::Answer;
+use answers::{Answer, Help};
 use cards::CardRow;
 use method::Row;
 use std::alloc::Global;
@@ -37,54 +36,94 @@ pub enum Stage {
     NoRows,
 }
 
-// What the line asks for, if it has any words.
-pub fn command_of(heap: Global, stage: Stage, line: &[u8]) -> Result<Option<Command>, Refusal>
-    ensures { IfOk result (λ o. IfSome o (λ c. fits stage c ≡ true)) }
+// Which commands a line can be: what the program knows, and what it can do now.
+pub trait Grammar {
+    type Asked;
+
+    // Whether a line can ask for this.
+    ghost takes: { Self → Self.Asked → Bool };
+
+    // What the line asks for, if it has any words.
+    fn read(&self, heap: Global, line: &[u8]) -> Result<Option<Self::Asked>, Refusal>
+        ensures { IfOk result (λ o. IfSome o (λ asked. takes self.now asked ≡ true)) };
+}
+
+// The commands that need no method are all that there are.
+#[derive(Clone, Copy)]
+pub struct Questions;
+
+impl Grammar for Questions {
+    type Asked = Answer;
+
+    ghost takes = { λ _ answer. needs_no_method answer };
+
+    fn read(&self, heap: Global, line: &[u8]) -> Result<Option<Answer>, Refusal> {
+        question_of(heap, line)
+    }
+}
+
+impl Grammar for Stage {
+    type Asked = Command;
+
+    ghost takes = { fits };
+
+    fn read(&self, heap: Global, line: &[u8]) -> Result<Option<Command>, Refusal> {
+        command_of(heap, *self, line)
+    }
+}
+
+// What the line's first word names, and the words after it, if there are any.
+fn first_word<'a, N: Drop, F: FnOnce(&[u8]) -> Option<N>>(
+    heap: Global,
+    line: &'a [u8],
+    named: F,
+) -> Result<Option<(N, Words<'a>)>, Refusal>
+    requires { F.IsAlwaysCallable named }
 {
-    let mut words = Words::of(line);
+    let mut words = Words { heap, rest: line };
     let Some(word) = words.next() else {
         return Ok(None);
     };
-    match CommandName::of(word) {
-        Some(name) => Ok(Some(read_command(heap, stage, name, words)?)),
+    match named(word) {
+        Some(name) => Ok(Some((name, words))),
         None => Err(Refusal::UnknownCommand(Quoted::of(word))),
     }
 }
 
-fn read_command(
-    heap: Global,
-    stage: Stage,
-    name: CommandName,
-    words: Words<'_>,
-) -> Result<Command, Refusal>
+// The answer to the line, if it has any words, where there are no commands but those that need no method.
+fn question_of(heap: Global, line: &[u8]) -> Result<Option<Answer>, Refusal>
+    ensures { IfOk result (λ o. IfSome o (λ a. needs_no_method a ≡ true)) }
+{
+    let Some((question, words)) = first_word(heap, line, Question::of)? else {
+        return Ok(None);
+    };
+    Ok(Some(question.answer(Help::Questions, words)?))
+}
+
+// What the line asks for, if it has any words.
+pub fn command_of(heap: Global, stage: Stage, line: &[u8]) -> Result<Option<Command>, Refusal>
+    ensures { IfOk result (λ o. IfSome o (λ c. fits stage c ≡ true)) }
+{
+    let Some((name, words)) = first_word(heap, line, CommandName::of)? else {
+        return Ok(None);
+    };
+    Ok(Some(match name {
+        CommandName::Question(question) => Command::Answered(question.answer(Help::All, words)?),
+        CommandName::Method(command) => read_command(stage, command, words)?,
+    }))
+}
+
+fn read_command(stage: Stage, command: MethodCommand, words: Words<'_>) -> Result<Command, Refusal>
     ensures { IfOk result (λ c. fits stage c ≡ true) }
 {
-    match name {
-        CommandName::Sha256 => answered(sha256(heap, words)),
-        CommandName::Hmac => answered(hmac(heap, words)),
-        CommandName::Derive => answered(derive(heap, words)),
-        CommandName::Snn => answered(snn(words)),
-        CommandName::Decode => answered(decode(heap, words)),
-        CommandName::Help => answered(help(words)),
-        CommandName::Card => started(card(heap, words)),
-        CommandName::Scripted => started(scripted(heap, words)),
-        CommandName::Row => row(heap, stage, words),
-        CommandName::Process => used(stage, process(heap, words)),
-        CommandName::Clear => used(stage, clear(words)),
-        CommandName::Block => used(stage, block(words)),
+    match command {
+        MethodCommand::Card => Ok(Command::Start(card(words)?)),
+        MethodCommand::Scripted => Ok(Command::Start(scripted(words)?)),
+        MethodCommand::Row => row(stage, words),
+        MethodCommand::Process => used(stage, process(words)),
+        MethodCommand::Clear => used(stage, bare(command, words, Use::Clear)),
+        MethodCommand::Block => used(stage, bare(command, words, Use::Block)),
     }
-}
-
-fn answered(answer: Result<Answer, Refusal>) -> Result<Command, Refusal>
-    ensures { (s : Stage) → IfOk result (λ c. fits s c ≡ true) }
-{
-    Ok(Command::Answered(answer?))
-}
-
-fn started(start: Result<Start, Refusal>) -> Result<Command, Refusal>
-    ensures { (s : Stage) → IfOk result (λ c. fits s c ≡ true) }
-{
-    Ok(Command::Start(start?))
 }
 
 // Without a method nothing else of the line is told.
@@ -97,12 +136,12 @@ fn used(stage: Stage, command: Result<Use, Refusal>) -> Result<Command, Refusal>
     }
 }
 
-fn row(heap: Global, stage: Stage, words: Words<'_>) -> Result<Command, Refusal>
+fn row(stage: Stage, words: Words<'_>) -> Result<Command, Refusal>
     ensures { IfOk result (λ c. fits stage c ≡ true) }
 {
     match stage {
         Stage::NoMethod => Err(Refusal::NoMethod),
-        Stage::CardRows => Ok(Command::CardRow(card_row(heap, words)?)),
+        Stage::CardRows => Ok(Command::CardRow(card_row(words)?)),
         Stage::MethodRows => Ok(Command::MethodRow(method_row(words)?)),
         Stage::NoRows => Err(Refusal::NoRow),
     }

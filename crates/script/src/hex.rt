@@ -18,24 +18,22 @@ fn digit(b: u8) -> Option<u8>
     }
 }
 
-// The bytes that the digits write, or the first thing that is wrong with the value of this name.
+// The bytes that the digits write, or the first thing that is wrong with the value of this name. Digit by
+// digit, each read once: a byte that is no digit is told before an odd number of digits.
 pub(crate) fn decode(heap: Global, name: ValueName, digits: &[u8]) -> Result<Vec<u8>, Refusal> {
     let mut bytes = Vec::with_capacity(heap, digits.len() / 2)?;
     let mut high = None;
     for (i, b) in digits.iter().enumerate() {
         let Some(value) = digit(*b) else {
-            return Err(Refusal::of_value(name, ValueFault::NoDigit { place: i + 1 }));
+            return Err(ValueFault::NoDigit { place: i + 1 }.of(name));
         };
-        match high {
-            None => high = Some(value),
-            Some(first) => {
-                bytes.push(16 * first + value)?;
-                high = None;
-            }
+        match high.take() {
+            None => high = Some(16 * value),
+            Some(first) => bytes.push(first | value)?,
         }
     }
     match high {
         None => Ok(bytes),
-        Some(_) => Err(Refusal::of_value(name, ValueFault::OddDigits)),
+        Some(_) => Err(ValueFault::OddDigits.of(name)),
     }
 }

@@ -10,7 +10,10 @@ mod refusal;
 mod values;
 mod words;
 
-pub use commands::{Command, Stage, command_of};
+pub use commands::{Command, Grammar, Questions, Stage, command_of};
 pub use methods::{Request, Start, Use};
-pub use names::{Choice, Choices, CommandName, ValueName};
+pub use names::{
+    CardKind, CardWord, Choice, Choices, CommandName, MethodCommand, MethodWord, Question,
+    ValueName,
+};
 pub use refusal::{Quoted, Refusal, ValueFault};

@@ -1,27 +1,26 @@
 // The commands that start a method, add rows to it and use it.
-use crate::names::{Choice, Choices, CommandName, ValueName};
+use crate::names::{CardKind, CardWord, CommandName, MethodCommand, MethodWord, ValueName};
 use crate::refusal::{Refusal, ValueFault};
 use crate::values::{Form, Values, bounded, too_long};
 use crate::words::Words;
 use cards::{CardOutcome, CardRow, TestCard};
 use keys::Octets;
 use method::{Outcome, Row, Subscription};
-use std::alloc::Global;
 
 const CARD: Form = Form {
-    command: CommandName::Card,
+    command: CommandName::Method(MethodCommand::Card),
     fields: &[ValueName::Key, ValueName::Sequence],
     plain: Some(ValueName::Kind),
 };
 
 const SCRIPTED: Form = Form {
-    command: CommandName::Scripted,
+    command: CommandName::Method(MethodCommand::Scripted),
     fields: &[ValueName::Store],
     plain: None,
 };
 
 const CARD_ROW: Form = Form {
-    command: CommandName::Row,
+    command: CommandName::Method(MethodCommand::Row),
     fields: &[
         ValueName::Rand,
         ValueName::Autn,
@@ -35,31 +34,27 @@ const CARD_ROW: Form = Form {
 };
 
 const METHOD_ROW: Form = Form {
-    command: CommandName::Row,
+    command: CommandName::Method(MethodCommand::Row),
     fields: &[ValueName::Identifier, ValueName::Outcome, ValueName::At],
     plain: None,
 };
 
 const PROCESS: Form = Form {
-    command: CommandName::Process,
+    command: CommandName::Method(MethodCommand::Process),
     fields: &[ValueName::Snn, ValueName::Supi, ValueName::Suci],
     plain: Some(ValueName::Packet),
 };
 
-const CLEAR: Form = Form {
-    command: CommandName::Clear,
-    fields: &[],
-    plain: None,
-};
-
-const BLOCK: Form = Form {
-    command: CommandName::Block,
-    fields: &[],
-    plain: None,
-};
+// What a row of a recorded card holds beside its outcome.
+const CARD_VALUES: &[ValueName] = &[
+    ValueName::Auts,
+    ValueName::Res,
+    ValueName::Ck,
+    ValueName::Ik,
+];
 
 // The largest sequence number, of 48 bits.
-const LARGEST_SEQUENCE: u64 = 281474976710655;
+const LARGEST_SEQUENCE: u64 = (1 << 48) - 1;
 
 // The most bytes of a store, and the largest place in one.
 const LONGEST_STORE: usize = 65535;
@@ -91,139 +86,104 @@ pub enum Use {
     Block,
 }
 
-fn not_one_of(name: ValueName, choices: Choices) -> Refusal {
-    Refusal::of_value(name, ValueFault::NotOneOf(choices))
-}
-
 // The six bytes of a sequence number, the highest first.
 fn sequence_of(number: u64) -> [u8; 6] {
-    let bytes = number.to_be_bytes();
-    [bytes[2], bytes[3], bytes[4], bytes[5], bytes[6], bytes[7]]
+    *number.to_be_bytes()[2..].first_chunk().unwrap()
 }
 
-pub(crate) fn card(heap: Global, words: Words<'_>) -> Result<Start, Refusal> {
+pub(crate) fn card(words: Words<'_>) -> Result<Start, Refusal> {
     let values = Values::read(&CARD, words)?;
-    match Choice::of(values.plain_text(ValueName::Kind)?) {
-        Some(Choice::Test) => Ok(Start::TestCard(test_card(heap, &values)?)),
-        Some(Choice::Recorded) => {
-            values.without(&[ValueName::Key, ValueName::Sequence], Choice::Recorded)?;
+    match values.choice(ValueName::Kind)? {
+        CardKind::Test => Ok(Start::TestCard(test_card(&values)?)),
+        CardKind::Recorded => {
+            values.without(&[ValueName::Key, ValueName::Sequence], CardKind::Recorded)?;
             Ok(Start::RecordedCard)
         }
-        _ => Err(not_one_of(ValueName::Kind, Choices::Cards)),
     }
 }
 
-fn test_card(heap: Global, values: &Values<'_>) -> Result<TestCard, Refusal> {
-    let key = values.array(heap, ValueName::Key)?;
+fn test_card(values: &Values<'_>) -> Result<TestCard, Refusal> {
+    let key = values.array(ValueName::Key)?;
     let sequence = values.number(ValueName::Sequence, LARGEST_SEQUENCE)?;
     Ok(TestCard::new(key, sequence_of(sequence)))
 }
 
-pub(crate) fn scripted(heap: Global, words: Words<'_>) -> Result<Start, Refusal> {
-    let values = Values::read(&SCRIPTED, words)?;
-    let store = values.bytes(heap, ValueName::Store)?;
+pub(crate) fn scripted(words: Words<'_>) -> Result<Start, Refusal> {
+    let store = Values::read(&SCRIPTED, words)?.bytes(ValueName::Store)?;
     if store.len() > LONGEST_STORE {
         return Err(too_long(ValueName::Store, store.len(), LONGEST_STORE));
     }
     Ok(Start::Scripted(store))
 }
 
-pub(crate) fn card_row(heap: Global, words: Words<'_>) -> Result<CardRow, Refusal> {
+pub(crate) fn card_row(words: Words<'_>) -> Result<CardRow, Refusal> {
     let values = Values::read(&CARD_ROW, words)?;
-    let rand = values.array(heap, ValueName::Rand)?;
-    let autn = values.array(heap, ValueName::Autn)?;
-    let outcome = card_outcome(heap, &values)?;
     Ok(CardRow {
-        rand,
-        autn,
-        outcome,
+        rand: values.array(ValueName::Rand)?,
+        autn: values.array(ValueName::Autn)?,
+        outcome: card_outcome(&values)?,
     })
 }
 
-fn card_outcome(heap: Global, values: &Values<'_>) -> Result<CardOutcome, Refusal> {
-    match Choice::of(values.text(ValueName::Outcome)?) {
-        Some(Choice::Out) => {
-            values.without(
-                &[
-                    ValueName::Auts,
-                    ValueName::Res,
-                    ValueName::Ck,
-                    ValueName::Ik,
-                ],
-                Choice::Out,
-            )?;
+fn card_outcome(values: &Values<'_>) -> Result<CardOutcome, Refusal> {
+    let word = values.choice(ValueName::Outcome)?;
+    match word {
+        CardWord::Out => {
+            values.without(CARD_VALUES, word)?;
             Ok(CardOutcome::Out)
         }
-        Some(Choice::Wrong) => {
-            values.without(
-                &[
-                    ValueName::Auts,
-                    ValueName::Res,
-                    ValueName::Ck,
-                    ValueName::Ik,
-                ],
-                Choice::Wrong,
-            )?;
+        CardWord::Wrong => {
+            values.without(CARD_VALUES, word)?;
             Ok(CardOutcome::Wrong)
         }
-        Some(Choice::Stale) => {
-            let auts = values.array(heap, ValueName::Auts)?;
-            values.without(
-                &[ValueName::Res, ValueName::Ck, ValueName::Ik],
-                Choice::Stale,
-            )?;
+        CardWord::Stale => {
+            let auts = values.array(ValueName::Auts)?;
+            values.without(&[ValueName::Res, ValueName::Ck, ValueName::Ik], word)?;
             Ok(CardOutcome::Stale { auts })
         }
-        Some(Choice::Good) => good_outcome(heap, values),
-        _ => Err(not_one_of(ValueName::Outcome, Choices::CardOutcomes)),
+        CardWord::Good => {
+            values.without(&[ValueName::Auts], word)?;
+            Ok(CardOutcome::Good {
+                res: values.array(ValueName::Res)?,
+                ck: values.array(ValueName::Ck)?,
+                ik: values.array(ValueName::Ik)?,
+            })
+        }
     }
-}
-
-fn good_outcome(heap: Global, values: &Values<'_>) -> Result<CardOutcome, Refusal> {
-    values.without(&[ValueName::Auts], Choice::Good)?;
-    let res = values.array(heap, ValueName::Res)?;
-    let ck = values.array(heap, ValueName::Ck)?;
-    let ik = values.array(heap, ValueName::Ik)?;
-    Ok(CardOutcome::Good { res, ck, ik })
 }
 
 pub(crate) fn method_row(words: Words<'_>) -> Result<Row, Refusal> {
     let values = Values::read(&METHOD_ROW, words)?;
-    let identifier = values.number(ValueName::Identifier, 255)? as u8;
-    let outcome = method_outcome(&values)?;
     Ok(Row {
-        identifier,
-        outcome,
+        identifier: values.number(ValueName::Identifier, 255)? as u8,
+        outcome: method_outcome(&values)?,
     })
 }
 
 fn method_outcome(values: &Values<'_>) -> Result<Outcome, Refusal> {
-    match Choice::of(values.text(ValueName::Outcome)?) {
-        Some(Choice::GoOn) => {
-            values.without(&[ValueName::At], Choice::GoOn)?;
+    let word = values.choice(ValueName::Outcome)?;
+    match word {
+        MethodWord::GoOn => {
+            values.without(&[ValueName::At], word)?;
             Ok(Outcome::GoOn)
         }
-        Some(Choice::Granted) => {
+        MethodWord::Granted => {
             let at = values.number(ValueName::At, LONGEST_STORE as u64)? as usize;
             Ok(Outcome::Grant { at })
         }
-        Some(Choice::Refuse) => {
-            values.without(&[ValueName::At], Choice::Refuse)?;
+        MethodWord::Refuse => {
+            values.without(&[ValueName::At], word)?;
             Ok(Outcome::Refuse)
         }
-        _ => Err(not_one_of(ValueName::Outcome, Choices::MethodOutcomes)),
     }
 }
 
-pub(crate) fn process(heap: Global, words: Words<'_>) -> Result<Use, Refusal> {
+pub(crate) fn process(words: Words<'_>) -> Result<Use, Refusal> {
     let values = Values::read(&PROCESS, words)?;
-    let subscription = subscription_of(&values)?;
-    let suci = suci_of(&values)?;
-    let packet = values.plain_bytes(heap, ValueName::Packet)?;
     Ok(Use::Process(Request {
-        subscription,
-        suci,
-        packet,
+        subscription: subscription_of(&values)?,
+        suci: suci_of(&values)?,
+        packet: values.plain_bytes(ValueName::Packet)?,
     }))
 }
 
@@ -241,17 +201,18 @@ fn subscription_of(values: &Values<'_>) -> Result<Subscription, Refusal> {
 fn suci_of(values: &Values<'_>) -> Result<Octets<255>, Refusal> {
     let text = values.text(ValueName::Suci)?;
     if text.is_empty() {
-        return Err(Refusal::of_value(ValueName::Suci, ValueFault::NoBytes));
+        return Err(ValueFault::NoBytes.of(ValueName::Suci));
     }
     bounded(ValueName::Suci, text)
 }
 
-pub(crate) fn clear(words: Words<'_>) -> Result<Use, Refusal> {
-    Values::read(&CLEAR, words)?;
-    Ok(Use::Clear)
-}
-
-pub(crate) fn block(words: Words<'_>) -> Result<Use, Refusal> {
-    Values::read(&BLOCK, words)?;
-    Ok(Use::Block)
+// A use that takes no values.
+pub(crate) fn bare(command: MethodCommand, words: Words<'_>, what: Use) -> Result<Use, Refusal> {
+    let form = Form {
+        command: CommandName::Method(command),
+        fields: &[],
+        plain: None,
+    };
+    Values::read(&form, words)?;
+    Ok(what)
 }

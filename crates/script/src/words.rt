@@ -1,49 +1,36 @@
 // The words of a line.
-ghost use Rattle.std.specs.Prelude.{◌<◌, ◌≤◌, length, OnSome};
+ghost use Rattle.std.specs.Prelude.{length};
+ghost use Rattle.std.specs.Iterator.{at_most};
 
-fn is_blank(b: u8) -> bool {
-    b == b' ' || b == b'\t' || b == b'\r'
+use std::alloc::Global;
+
+fn is_blank(b: &u8) -> bool {
+    matches!(b, b' ' | b'\t' | b'\r')
 }
 
-// What is left of a line.
+// What is left of a line, whose words end with it or where a comment starts, and the heap for what they write.
 #[derive(Clone, Copy)]
 pub(crate) struct Words<'a> {
-    rest: &'a [u8],
+    pub(crate) heap: Global,
+    pub(crate) rest: &'a [u8],
 }
 
-impl<'a> Words<'a> {
-    pub(crate) fn of(line: &'a [u8]) -> Words<'a> {
-        Words { rest: line }
-    }
+impl<'a> Iterator for Words<'a> {
+    type Item = &'a [u8];
 
-    // The next word, unless the line ends or a comment starts.
-    pub(crate) fn next(&mut self) -> Option<&'a [u8]>
-        ensures { OnSome result (length self.new.rest.now < length self.old.rest.now) }
-    {
-        let start = first_place(self.rest, false);
+    ghost remaining = { λ words. at_most (length words.rest.now) };
+
+    fn next(&mut self) -> Option<&'a [u8]> {
+        let start = self.rest.iter().position(|b| !is_blank(b))?;
         let (_, from) = self.rest.split_at(start);
-        let end = first_place(from, true);
+        let end = from.iter().position(is_blank).unwrap_or(from.len());
         let (word, rest) = from.split_at(end);
-        self.rest = rest;
         match word {
-            [] => None,
-            [b'#', ..] => {
-                self.rest = &[];
-                None
+            [] | [b'#', ..] => None,
+            _ => {
+                self.rest = rest;
+                Some(word)
             }
-            _ => Some(word),
         }
     }
-}
-
-// The first place that holds a blank, or that holds none.
-fn first_place(bytes: &[u8], blank: bool) -> usize
-    ensures { result ≤ length bytes.now }
-{
-    for (i, b) in bytes.iter().enumerate() {
-        if is_blank(*b) == blank {
-            return i;
-        }
-    }
-    bytes.len()
 }

@@ -1,6 +1,5 @@
 use Rattle.std.proofs.Common.{◌≡◌, ◌+◌, ◌/◌, ◌%◌, ◌∷◌, ◌++◌, length, replicate, sym, ap, ◌∙◌, arith, length-append}
 use Rattle.nas.specs.Replies.{response_packet}
-use Rattle.aka.specs.Bodies.{body}
 use Rattle.aka.specs.Replies.{aka_type, challenge_body, challenge_front, mac_with}
 use Rattle.aka.proofs.reply.challenge.Goals as goal
 
@@ -11,7 +10,7 @@ returns c =
     let k_aut_of = c.args.k_aut.now in
     let front = challenge_front c.args.res.now in
     let zeroed = front ++ replicate 16 0 in
-    let is : body c.challenge_front-body.result ≡ front = c.challenge_front-body.ensures.value in
+    let is : c.challenge_front-body.result.items ≡ front = c.challenge_front-body.ensures.value in
     let long : length front ≡ 27 = ap length (sym is) ∙ c.challenge_front-body.ensures.len in
     let all : length zeroed + 5 ≡ 48 = ap (λ n. n + 5) (length-append front (replicate 16 0)) ∙ omega arith in
     let packet : 2 ∷ i ∷ 0 ∷ 48 ∷ 50 ∷ zeroed ≡ response_packet i aka_type zeroed = ap (λ n. 2 ∷ i ∷ n / 256 ∷ n % 256 ∷ 50 ∷ zeroed) (sym all) in

@@ -10,5 +10,6 @@ returns c =
     let first = c.update.ensures key [] c.new-hmac.ensures in
     let second = c.update-2.ensures key _ first in
     let third = c.update-3.ensures key _ second in
-    let digest = c.finish-digest.ensures key _ third ∙ ap (hmac key) (append_assoc c.args.first.now c.args.second.now c.args.third.now) in
-    c.copy_from_slice.ensures.after ∙ ap (take 16) digest
+    let digest = c.finish.ensures key _ third ∙ ap (hmac key) (append_assoc c.args.first.now c.args.second.now c.args.third.now) in
+    let front = rw c.unwrap.ensures at c.first_chunk.ensures.cases in
+    front.same ∙ ap (take 16) digest

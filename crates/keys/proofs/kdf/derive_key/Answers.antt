@@ -6,9 +6,6 @@ use Rattle.keys.specs.Kdf.{kdf}
 use Rattle.keys.proofs.Derived.{hashes, hashes-all, hashes-step, short-at}
 use Rattle.keys.proofs.kdf.derive_key.Goals as goal
 
-pub loop-p-init : goal.loop-p-init
-loop-p-init c = c.update.ensures c.args.key.now [] c.new-mac.ensures
-
 pub overflow_cast-len : goal.overflow_cast-len
 overflow_cast-len c =
     let none : Bor (List ℕ) = record { ref_ptr = (0, 0); now = [] } in

@@ -1,16 +1,19 @@
-use Rattle.std.proofs.Common.{◌≡◌, true, cond, ◌&&◌, leb, length, Some, None, sym, ap, ◌∙◌, arith, le-leb}
+use Rattle.std.proofs.Common.{◌≡◌, ℕ, ◌-◌, ◌++◌, length, drop, replicate, ap, ◌∙◌, arith, length-append}
 use lib.ListN.{length-replicate}
-use Rattle.keys.proofs.Copied.{copied}
+use Rattle.std.proofs.Math.Seq.{drop-append_seam}
+use Rattle.std.proofs.lemmas.List.{drop-replicate}
 use Rattle.keys.proofs.octets.Octets.new.Goals as goal
 
-pub loop-i-init : goal.loop-i-init
-loop-i-init g c = ((λ k h. omega arith), length-replicate g.row.N 0)
-
-pub returns : goal.returns
-returns g c =
+pub invariant_of-result : goal.invariant_of-result
+invariant_of-result g c =
     let bytes = c.args.bytes.now in
-    let front = copied c.loop-i.held bytes (omega (arith, c.loop-i.invariant.1, c.if-len.false)) (λ k h. c.loop-i.invariant.0 k (omega arith)) in
-    let small = le-leb (length bytes) g.row.N c.if-len.false in
-    let told = le-leb (length bytes) 65535 c.if-len-gt-LONGEST.false in
-    let fits : (leb (length bytes) g.row.N && leb (length bytes) 65535) ≡ true = ap (λ b. b && leb (length bytes) 65535) small ∙ told in
-    ap Some front ∙ sym (ap (λ b. cond b (Some bytes) None) fits)
+    let back = c.split_at_mut-front.result.1.now in
+    let copied = c.copy_from_slice.ensures.after in
+    let zeros : back ≡ replicate (g.row.N - length bytes) 0 = c.split_at_mut-front.ensures.back ∙ drop-replicate (length bytes) g.row.N 0 in
+    let behind : length back ≡ g.row.N - length bytes = ap length zeros ∙ length-replicate {A = ℕ} (g.row.N - length bytes) 0 in
+    record {
+      wide = ap (λ l. length (l ++ back)) copied ∙ length-append bytes back ∙ omega (arith, behind, c.if-len.false);
+      inside = c.if-len.false;
+      told = omega arith;
+      rest = ap (λ l. drop (length bytes) (l ++ back)) copied ∙ drop-append_seam bytes back ∙ zeros;
+    }
