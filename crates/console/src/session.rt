@@ -2,7 +2,7 @@
 ghost use Rattle.std.specs.Prelude.{◌≡◌, Bool, true, false, IfOk, IfSome};
 
 use answers::Answer;
-use script::Grammar;
+use script::{Grammar, Refusal};
 use std::alloc::Global;
 use std::io;
 use std::io::{BufRead, BufWriter, Write};
@@ -68,6 +68,15 @@ impl<R: BufRead, W: Write + Drop> Session<R, W> {
         Ok(self.input.read_until(b'\n', &mut self.line)? > 0)
     }
 
+    // Answers a line that could not be read.
+    fn refuse(&mut self, refusal: &Refusal) -> io::Result<()>
+        ensures { self.new ≡ false }
+    {
+        let number = self.number;
+        self.all_read = false;
+        writeln!(self.out, "line {number}: {refusal}")
+    }
+
     // What the line asks for; one that cannot be read is answered here.
     fn asked<G: Grammar>(&mut self, grammar: &G) -> io::Result<Option<G::Asked>>
         ensures asked { IfOk result (λ o. IfSome o (λ asked. G.takes grammar.now asked ≡ true)) }
@@ -76,9 +85,7 @@ impl<R: BufRead, W: Write + Drop> Session<R, W> {
         match grammar.read(self.heap, line_of(self.line.as_slice())) {
             Ok(asked) => Ok(asked),
             Err(refusal) => {
-                let number = self.number;
-                self.all_read = false;
-                writeln!(self.out, "line {number}: {refusal}")?;
+                self.refuse(&refusal)?;
                 Ok(None)
             }
         }
