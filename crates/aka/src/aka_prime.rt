@@ -1,5 +1,6 @@
 // EAP-AKA' as a method, written once, over every card.
 ghost use Rattle.std.specs.Prelude.{◌≡◌, length, None, refl};
+ghost use Rattle.keys.specs.Octets.{octets};
 ghost use Rattle.nas.specs.Replies.{response_packet};
 ghost use Rattle.method.specs.Method.{replied};
 ghost use Rattle.method.specs.Subscribers.{subscriber};
@@ -77,8 +78,8 @@ impl<C: Card> AkaPrime<C> {
 // Writes the reply to the front of the buffer, and tells its length. The scripted method has its own: one for both would have to
 // ask that the body fits.
 fn write_reply(reply: &Reply, identifier: u8, suci: &Octets<255>, out: &mut [u8; 1500]) -> usize
-    ensures len { result ≡ length (response_packet identifier 50 (body_of identifier suci.now (answer reply.now))) }
-    ensures bytes { out.new ≡ replied (response_packet identifier 50 (body_of identifier suci.now (answer reply.now))) out.old }
+    ensures len { result ≡ length (response_packet identifier 50 (body_of identifier (octets suci.now) (answer reply.now))) }
+    ensures bytes { out.new ≡ replied (response_packet identifier 50 (body_of identifier (octets suci.now) (answer reply.now))) out.old }
 {
     let body = reply.body(identifier, suci);
     write_response(identifier, EAP_TYPE, body.as_slice(), out).unwrap()

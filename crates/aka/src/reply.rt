@@ -2,6 +2,7 @@
 ghost use Rattle.std.specs.Prelude.{◌≡◌, ◌+◌, ◌≤◌, ◌++◌, map, length};
 ghost use Rattle.arrayvec.specs.ArrayVec.{array_vec_len};
 ghost use Rattle.digest.specs.Hmac.{joined};
+ghost use Rattle.keys.specs.Octets.{octets};
 ghost use Rattle.attributes.specs.Requests.{kdf_list};
 ghost use Rattle.aka.specs.Replies.{answer, authentication_reject_body, body_of, challenge_body, challenge_front, client_error_body, identity_body, kdf_attribute, mac_with, synchronization_failure_body};
 
@@ -122,7 +123,7 @@ fn synchronization_failure(auts: &[u8; 14], kdfs: &Kdfs) -> Body
 }
 
 fn identity(suci: &Octets<255>) -> Body
-    ensures { result.items ≡ identity_body suci.now }
+    ensures { result.items ≡ identity_body (octets suci.now) }
 {
     let suci = suci.as_slice();
     let len = suci.len();
@@ -163,7 +164,7 @@ fn challenge(identifier: u8, res: &[u8; 16], k_aut: &[u8; 32]) -> Body
 impl Reply {
     // The body of the reply to the request with this identifier.
     pub(crate) fn body(&self, identifier: u8, suci: &Octets<255>) -> Body
-        ensures { result.items ≡ body_of identifier suci.now (answer self.now) }
+        ensures { result.items ≡ body_of identifier (octets suci.now) (answer self.now) }
     {
         match self {
             Reply::ClientError => client_error(),

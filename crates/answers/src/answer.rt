@@ -9,7 +9,7 @@ use std::fmt;
 use std::fmt::Display;
 
 #[derive(Drop)]
-pub enum Answer {
+pub enum Answer<'a> {
     Digest([u8; 32]),
     Mac([u8; 32]),
     Keys(LogOnKeys),
@@ -25,12 +25,12 @@ pub enum Answer {
     Row(usize),
     // The packet is no request of the method's type, which is this.
     NotTaken(u8),
-    Processed(Processed),
+    Processed(Processed<'a>),
     Cleared,
     Block(Option<[u8; 128]>),
 }
 
-impl Display for Answer {
+impl Display for Answer<'_> {
     fn fmt<W: fmt::Write>(&self, f: &mut fmt::Formatter<W>) -> fmt::Result {
         match self {
             Answer::Digest(bytes) => write!(f, "sha256 = {}", Hex(bytes)),

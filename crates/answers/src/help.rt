@@ -31,16 +31,25 @@ clear                        clears the method
 block                        the key block that the method holds, if any
 ";
 
+const TERMS: &str = "help                         this list
+HEX: two hexadecimal digits to a byte, - for no bytes. TEXT: a word.";
+
+const NUMBER: &str = " N: a decimal number.";
+
+const COMMENT: &str = " # starts a comment.";
+
+// Text after text: `write!` goes through the formatter for each part.
 impl Display for Help {
     fn fmt<W: fmt::Write>(&self, f: &mut fmt::Formatter<W>) -> fmt::Result {
-        let (methods, number) = match self {
-            Help::Questions => ("", ""),
-            Help::All => (METHODS, " N: a decimal number."),
-        };
-        write!(
-            f,
-            "{QUESTIONS}{methods}help                         this list
-HEX: two hexadecimal digits to a byte, - for no bytes. TEXT: a word.{number} # starts a comment."
-        )
+        f.write_str(QUESTIONS)?;
+        match self {
+            Help::Questions => f.write_str(TERMS)?,
+            Help::All => {
+                f.write_str(METHODS)?;
+                f.write_str(TERMS)?;
+                f.write_str(NUMBER)?;
+            }
+        }
+        f.write_str(COMMENT)
     }
 }

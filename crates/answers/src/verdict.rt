@@ -27,10 +27,12 @@ impl Display for Reason {
     }
 }
 
-#[derive(Drop)]
-pub struct Processed {
+// The reply stays in the buffer that the method wrote it to: an answer needs no memory, which may have run out when the method
+// has taken the packet.
+#[derive(Clone, Copy)]
+pub struct Processed<'a> {
     pub verdict: Verdict<Reason>,
-    pub reply: Vec<u8>,
+    pub reply: &'a [u8],
     pub holds_block: bool,
 }
 
@@ -44,10 +46,10 @@ impl Display for InWords<Verdict<Reason>> {
     }
 }
 
-impl Display for Processed {
+impl Display for Processed<'_> {
     fn fmt<W: fmt::Write>(&self, f: &mut fmt::Formatter<W>) -> fmt::Result {
         let verdict = InWords(self.verdict);
-        let reply = Hex(self.reply.as_slice());
+        let reply = Hex(self.reply);
         let held = if self.holds_block {
             "block"
         } else {

@@ -5,8 +5,10 @@ mod card;
 mod cases;
 mod kinds;
 mod recorded;
+mod same;
 mod test_card;
 
 pub use card::Card;
 pub use cases::{AskedTwice, worked_cases};
 pub use kinds::{CardOutcome, CardRow, RecordedCard, TestCard};
+pub use same::same_bytes;

@@ -53,7 +53,7 @@ impl<R: BufRead, W: Write + Drop> Session<R, W> {
         self.heap
     }
 
-    pub fn say(&mut self, answer: &Answer) -> io::Result<()>
+    pub fn say(&mut self, answer: &Answer<'_>) -> io::Result<()>
         ensures { self.new ≡ self.old }
     {
         writeln!(self.out, "{answer}")
@@ -77,21 +77,8 @@ impl<R: BufRead, W: Write + Drop> Session<R, W> {
         writeln!(self.out, "line {number}: {refusal}")
     }
 
-    // What the line asks for; one that cannot be read is answered here.
-    fn asked<G: Grammar>(&mut self, grammar: &G) -> io::Result<Option<G::Asked>>
-        ensures asked { IfOk result (λ o. IfSome o (λ asked. G.takes grammar.now asked ≡ true)) }
-        ensures kept { self.old ≡ false → self.new ≡ false }
-    {
-        match grammar.read(self.heap, line_of(self.line.as_slice())) {
-            Ok(asked) => Ok(asked),
-            Err(refusal) => {
-                self.refuse(&refusal)?;
-                Ok(None)
-            }
-        }
-    }
-
-    // What the next line asks for that can be read and asks for something; there is none at the end of the script.
+    // What the next line asks for that can be read and asks for something; there is none at the end of the script. The lines before
+    // it that cannot be read are answered here.
     pub fn next<G: Grammar>(&mut self, grammar: &G) -> io::Result<Option<G::Asked>>
         ensures asked { IfOk result (λ o. IfSome o (λ asked. G.takes grammar.now asked ≡ true)) }
         ensures kept { self.old ≡ false → self.new ≡ false }
@@ -101,8 +88,10 @@ impl<R: BufRead, W: Write + Drop> Session<R, W> {
             if !self.advance()? {
                 break;
             }
-            if let Some(asked) = self.asked(grammar)? {
-                return Ok(Some(asked));
+            match grammar.read(self.heap, line_of(self.line.as_slice())) {
+                Ok(Some(asked)) => return Ok(Some(asked)),
+                Ok(None) => {}
+                Err(refusal) => self.refuse(&refusal)?,
             }
         }
         Ok(None)

@@ -1,25 +1,22 @@
--- What `map` gives of an array, where no call changes the closure. Assumes nothing.
-use denote.Param.Members.{Mut, Called}
-use Rattle.std.specs.Array.{MapsFrom, IsMapOf}
-use Rattle.std.proofs.Common.{◌≡◌, ℕ, zero, suc, ◌+◌, ◌<◌, List, map, length, get_or, sym, ap, ◌∙◌, subst, arith}
+-- What `from_fn` gives of an array's elements, where no call changes the closure. Assumes nothing.
+use denote.Param.Members.{Mut}
+use Rattle.std.specs.Fn.{Called}
+use Rattle.std.specs.Array.{IsFromFnResult, IsFromFnResultFrom}
+use Rattle.std.proofs.Common.{◌≡◌, ℕ, zero, suc, ◌+◌, ◌<◌, List, map, length, get_or, sym, refl, ◌∙◌, arith}
 use Rattle.std.proofs.lemmas.List.{same_lists, get_or-map, length-map}
 
-module _ {F A B : Type 0} (g : Mut F (A × Unit {0}) B) (f : F) (h : A → B) (same : (x : A) (y : B) (q : F) → Called g f (x, tt) y q → (q ≡ f) × (y ≡ h x)) (xs : List A) (ys : List B) (d : A) where
-  map-at : (n i j : ℕ) (e : B) → MapsFrom g f xs ys i n → j < n → get_or ys (i + j) e ≡ h (get_or xs (i + j) d)
-  map-at zero i j e calls low = elim low [ ]
-  map-at (suc n) i zero e calls low =
-      let here : i + zero ≡ i = omega arith in
-      let one = same calls.1 calls.2 calls.0 calls.5 in
-      ap (λ k. get_or ys k e) here ∙ calls.4.1 e ∙ one.1 ∙ ap h (sym (calls.3.1 d) ∙ ap (λ k. get_or xs k d) (sym here))
-  map-at (suc n) i (suc j) e calls low =
-      let next : i + suc j ≡ (i + 1) + j = omega arith in
-      let one = same calls.1 calls.2 calls.0 calls.5 in
-      let rest = subst (λ p. MapsFrom g p xs ys (i + 1) n) one.0 calls.6 in
-      ap (λ k. get_or ys k e) next ∙ map-at n (i + 1) j e rest (omega arith) ∙ ap (λ k. h (get_or xs k d)) (sym next)
+module _ {F A B : Type 0} (g : Mut F (ℕ × Unit {0}) B) (f : F) (h : A → B) (xs : List A) (ys : List B) (d : A) (gives : (i : ℕ) (y : B) (q : F) → Called g f (i, tt) y q → (q ≡ f) × (y ≡ h (get_or xs i d))) where
+  made : (i n : ℕ) (p : F) → p ≡ f → IsFromFnResultFrom g p ys i n → (k j : ℕ) (e : B) → i + k ≡ j → k < n → get_or ys j e ≡ h (get_or xs j d)
+  made i zero p s calls k j e place low = absurd (omega arith)
+  made i (suc n) p s (q, y, at, called, rest) zero j e place low =
+      let given = gives i y q (rw s at called) in
+      let here : j ≡ i = omega arith in
+      rw here (at.1 e ∙ given.1)
+  made i (suc n) p s (q, y, at, called, rest) (suc k) j e place low =
+      let given = gives i y q (rw s at called) in
+      made (i + 1) n q given.0 rest k j e (omega arith) (omega arith)
 
-  pub map-is : (n : ℕ) → length xs ≡ n → IsMapOf g f xs ys n → ys ≡ map h xs
-  map-is n long all =
-      same_lists ys (map h xs) (all.long ∙ sym (length-map xs h ∙ long)) (λ k e low.
-      let within : k < n = omega (arith, all.long) in
-      let at : 0 + k ≡ k = omega arith in
-      ap (λ i. get_or ys i e) (sym at) ∙ map-at n 0 k e all.each within ∙ ap (λ i. h (get_or xs i d)) at ∙ sym (get_or-map h xs k d e (omega (arith, long))))
+  pub is_map : (n : ℕ) → length xs ≡ n → IsFromFnResult g f ys n → ys ≡ map h xs
+  is_map n long it =
+      same_lists ys (map h xs) (it.long ∙ sym (length-map xs h ∙ long)) (λ k e low.
+      made 0 n f refl it.each k k e (omega arith) (omega (arith, it.long)) ∙ sym (get_or-map h xs k d e (omega (arith, long, it.long))))

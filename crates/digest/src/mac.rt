@@ -1,10 +1,11 @@
 // HMAC-SHA-256 (RFC 2104) of a message that comes in parts, under a key of any length.
-ghost use Rattle.std.specs.Prelude.{◌≡◌, ℕ, List, [], ◌++◌, map, length, bit_xor, nat_lt};
+ghost use Rattle.std.specs.Prelude.{◌≡◌, ℕ, ◌<◌, List, [], ◌++◌, map, length, bit_xor, nat_lt, slice_index};
 ghost use Rattle.digest.specs.Hmac.{block_key, hmac};
 ghost use Rattle.digest.specs.Keyed.{Keyed};
 
 use crate::state::{Hmac, Sha256};
 use crate::stream::put;
+use std::array;
 
 // The bytes of a block, B in the standard.
 const BLOCK: usize = 64;
@@ -38,7 +39,13 @@ fn block_key(key: &[u8]) -> [u8; 64]
 fn masked(block: &[u8; 64], pad: u8) -> [u8; 64]
     ensures { result ≡ map (λ b. bit_xor b pad) block.now }
 {
-    block.map(|b| b ^ pad)
+    // In place of `map`, which goes over the block three times.
+    array::from_fn(
+        |i| -> u8
+            requires { i < 64 }
+            ensures { result ≡ bit_xor (slice_index block.entry.now i) pad }
+        { block[i] ^ pad },
+    )
 }
 
 impl Hmac {

@@ -1,6 +1,7 @@
 // CK' and IK', and the key set of EAP-AKA' (RFC 5448, section 3.3; TS 33.501, annex A.3).
 ghost use Rattle.std.specs.Prelude.{◌≡◌, ◌+◌, ◌≤◌, ◌++◌, length, take, drop};
 ghost use Rattle.keys.specs.Keys.{ck_ik_prime, ck_prime, ik_prime, emsk_of, k_aut_of, k_encr_of, k_re_of, master_key, msk_of};
+ghost use Rattle.keys.specs.Octets.{octets};
 
 use crate::kdf::derive_key;
 use crate::octets::Octets;
@@ -52,7 +53,7 @@ fn ck_ik_prime<const N: usize>(
     network: &Octets<N>,
     autn: &[u8; 16],
 ) -> [u8; 32]
-    ensures { result ≡ ck_ik_prime ck.now ik.now network.now autn.now }
+    ensures { result ≡ ck_ik_prime ck.now ik.now (octets network.now) autn.now }
 {
     let key: [u8; 32] = join(ck, ik);
     derive_key(&key, FC_PRIME, &[network.as_slice(), &autn[0..6]])
@@ -65,8 +66,8 @@ impl PrimeKeys {
         network: &Octets<N>,
         autn: &[u8; 16],
     ) -> PrimeKeys
-        ensures ck { result.ck ≡ ck_prime ck.now ik.now network.now autn.now }
-        ensures ik { result.ik ≡ ik_prime ck.now ik.now network.now autn.now }
+        ensures ck { result.ck ≡ ck_prime ck.now ik.now (octets network.now) autn.now }
+        ensures ik { result.ik ≡ ik_prime ck.now ik.now (octets network.now) autn.now }
     {
         let both = ck_ik_prime(ck, ik, network, autn);
         PrimeKeys {

@@ -1,6 +1,7 @@
 // The chain KAUSF, KSEAF, KAMF (TS 33.501, annexes A.6 and A.7).
 ghost use Rattle.std.specs.Prelude.{◌≡◌};
 ghost use Rattle.keys.specs.Keys.{kamf_of, kausf_of, kseaf_of};
+ghost use Rattle.keys.specs.Octets.{octets};
 
 use crate::aka::part;
 use crate::kdf::derive_key;
@@ -26,7 +27,7 @@ pub fn kausf(emsk: &[u8; 64]) -> [u8; 32]
 }
 
 pub fn kseaf<const N: usize>(kausf: &[u8; 32], network: &Octets<N>) -> [u8; 32]
-    ensures { result ≡ kseaf_of kausf.now network.now }
+    ensures { result ≡ kseaf_of kausf.now (octets network.now) }
 {
     derive_key(kausf, FC_KSEAF, &[network.as_slice()])
 }
@@ -36,7 +37,7 @@ pub fn kamf<const S: usize, const B: usize>(
     supi: &Octets<S>,
     abba: &Octets<B>,
 ) -> [u8; 32]
-    ensures { result ≡ kamf_of kseaf.now supi.now abba.now }
+    ensures { result ≡ kamf_of kseaf.now (octets supi.now) (octets abba.now) }
 {
     derive_key(kseaf, FC_KAMF, &[supi.as_slice(), abba.as_slice()])
 }
@@ -50,8 +51,8 @@ impl KeyChain {
         abba: &Octets<B>,
     ) -> KeyChain
         ensures kausf { result.kausf ≡ first.now }
-        ensures kseaf { result.kseaf ≡ kseaf_of first.now network.now }
-        ensures kamf { result.kamf ≡ kamf_of (kseaf_of first.now network.now) supi.now abba.now }
+        ensures kseaf { result.kseaf ≡ kseaf_of first.now (octets network.now) }
+        ensures kamf { result.kamf ≡ kamf_of (kseaf_of first.now (octets network.now)) (octets supi.now) (octets abba.now) }
     {
         let kseaf = kseaf(first, network);
         let kamf = kamf(&kseaf, supi, abba);

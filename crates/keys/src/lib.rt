@@ -2,6 +2,7 @@
 #![tactic(auto)]
 
 mod aka;
+mod bounded;
 mod chain;
 mod kdf;
 mod octets;

@@ -1,5 +1,6 @@
 -- What a `Subscription` stands for. Assumes nothing.
 use Rattle.std.specs.Prelude.{ℕ, List}
+use Rattle.keys.specs.Octets.{octets}
 use Rattle.method.specs.declared.subscription.Subscription.{Subscription}
 
 pub record Subscriber : Type 0 where
@@ -8,4 +9,4 @@ pub record Subscriber : Type 0 where
   pub most : ℕ
 
 abbrev pub subscriber : Subscription → Subscriber
-subscriber s = record { supi = s.supi; snn = s.network; most = s.most }
+subscriber s = record { supi = octets s.supi; snn = octets s.network; most = s.most }

@@ -1,5 +1,6 @@
 // The interface of an EAP method. Its ghost members say what a method means; everything above it is proved against them.
 ghost use Rattle.std.specs.Prelude.{◌≡◌};
+ghost use Rattle.keys.specs.Octets.{octets};
 ghost use Rattle.method.specs.Method.{Definition, Gives, Holding, emptied};
 ghost use Rattle.method.specs.Subscribers.{subscriber};
 
@@ -28,7 +29,7 @@ pub trait Method {
         suci: &Octets<255>,
         reply: &mut [u8; 1500],
     ) -> Weighing<Self::Fault>
-        ensures { Gives (definition.processes (holding self.old) packet.now (subscriber subscription.now) suci.now) result reply.old reply.new (holding self.new) };
+        ensures { Gives (definition.processes (holding self.old) packet.now (subscriber subscription.now) (octets suci.now)) result reply.old reply.new (holding self.new) };
 
     fn block(&self) -> Option<[u8; 128]>
         ensures { result ≡ (holding self.now).block };

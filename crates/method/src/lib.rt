@@ -12,3 +12,6 @@ pub use row::{Outcome, Row, Scripted, ScriptedFault};
 pub use scripted::identifier_of;
 pub use subscription::Subscription;
 pub use weighing::{Verdict, Weighing};
+
+#[cfg(test)]
+mod tests;

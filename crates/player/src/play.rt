@@ -6,7 +6,6 @@ use cards::{CardRow, RecordedCard, TestCard};
 use console::Session;
 use method::{Method, Row, Scripted, Verdict};
 use script::{Command, Request, Stage, Start, Use};
-use std::alloc::{AllocError, Global};
 use std::io;
 use std::io::{BufRead, Write};
 
@@ -139,8 +138,8 @@ where
     for _ in 0..u64::MAX {
         match next {
             Some(Command::Use(command)) => {
-                let answer = use_method(session.heap(), method, &command)?;
-                session.say(&answer)?;
+                let mut buffer = [0; 1500];
+                session.say(&use_method(method, &command, &mut buffer))?;
             }
             command => return Ok(started_by(command)),
         }
@@ -149,17 +148,21 @@ where
     Ok(None)
 }
 
-fn use_method<M: Method>(heap: Global, method: &mut M, command: &Use) -> Result<Answer, AllocError>
+fn use_method<'a, M: Method>(
+    method: &mut M,
+    command: &Use,
+    buffer: &'a mut [u8; 1500],
+) -> Answer<'a>
 where
     M::Fault: Told + Drop,
 {
     match command {
-        Use::Process(request) => process(heap, method, request),
+        Use::Process(request) => process(method, request, buffer),
         Use::Clear => {
             method.clear();
-            Ok(Answer::Cleared)
+            Answer::Cleared
         }
-        Use::Block => Ok(Answer::Block(method.block())),
+        Use::Block => Answer::Block(method.block()),
     }
 }
 
@@ -174,26 +177,25 @@ fn is_request(packet: &[u8], eap_type: u8) -> bool {
     )
 }
 
-fn process<M: Method>(heap: Global, method: &mut M, request: &Request) -> Result<Answer, AllocError>
+fn process<'a, M: Method>(
+    method: &mut M,
+    request: &Request,
+    buffer: &'a mut [u8; 1500],
+) -> Answer<'a>
 where
     M::Fault: Told + Drop,
 {
     let packet = request.packet.as_slice();
     let eap_type = method.eap_type();
     if !is_request(packet, eap_type) {
-        return Ok(Answer::NotTaken(eap_type));
+        return Answer::NotTaken(eap_type);
     }
-    let mut buffer = [0; 1500];
-    let weighing = method.process(packet, &request.subscription, &request.suci, &mut buffer);
-    Ok(Answer::Processed(Processed {
+    let weighing = method.process(packet, &request.subscription, &request.suci, buffer);
+    Answer::Processed(Processed {
         verdict: with_reason(weighing.verdict),
-        reply: buffer
-            .iter()
-            .copied()
-            .take(weighing.reply_len)
-            .collect(heap)?,
+        reply: &buffer[..weighing.reply_len.min(buffer.len())],
         holds_block: method.block().is_some(),
-    }))
+    })
 }
 
 // The same verdict, with what the program tells of a fault. A `match`: a `map` of `Verdict` would be a public function of the

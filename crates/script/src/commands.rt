@@ -15,7 +15,7 @@ use std::alloc::Global;
 #[derive(Drop)]
 pub enum Command {
     // The line needs no method, and this is its answer.
-    Answered(Answer),
+    Answered(Answer<'static>),
     // A method takes the place of the one before.
     Start(Start),
     // A row of the recorded card, or of the scripted method.
@@ -53,11 +53,11 @@ pub trait Grammar {
 pub struct Questions;
 
 impl Grammar for Questions {
-    type Asked = Answer;
+    type Asked = Answer<'static>;
 
     ghost takes = { λ _ answer. needs_no_method answer };
 
-    fn read(&self, heap: Global, line: &[u8]) -> Result<Option<Answer>, Refusal> {
+    fn read(&self, heap: Global, line: &[u8]) -> Result<Option<Answer<'static>>, Refusal> {
         question_of(heap, line)
     }
 }
@@ -91,7 +91,7 @@ fn first_word<'a, N: Drop, F: FnOnce(&[u8]) -> Option<N>>(
 }
 
 // The answer to the line, if it has any words, where there are no commands but those that need no method.
-fn question_of(heap: Global, line: &[u8]) -> Result<Option<Answer>, Refusal>
+fn question_of(heap: Global, line: &[u8]) -> Result<Option<Answer<'static>>, Refusal>
     ensures { IfOk result (λ o. IfSome o (λ a. needs_no_method a ≡ true)) }
 {
     let Some((question, words)) = first_word(heap, line, Question::of)? else {

@@ -1,10 +1,10 @@
 // The commands that need no method.
-ghost use Rattle.std.specs.Prelude.{◌≡◌, true, IfOk};
+ghost use Rattle.std.specs.Prelude.{◌≡◌, ◌≤◌, true, IfOk};
 ghost use Rattle.script.specs.Questions.{needs_no_method};
 
 use crate::names::{CommandName, Question, ValueName};
 use crate::refusal::Refusal;
-use crate::values::{Form, Values, bounded};
+use crate::values::{Form, Values, too_long};
 use crate::words::Words;
 use answers::{Answer, Help, LogOnKeys};
 use digest::{Hmac, Sha256};
@@ -22,7 +22,12 @@ const DERIVED_FROM: &[ValueName] = &[
 ];
 
 // The most bytes of a parameter of a key derivation.
-const MOST: usize = 65535;
+const LONGEST: usize = 65535;
+
+// What is enough for the parameters of nearly every log-on.
+const SHORT: usize = 255;
+
+const PARAMETERS: &[ValueName] = &[ValueName::Snn, ValueName::Supi, ValueName::Abba];
 
 impl Question {
     fn form(self) -> Form {
@@ -41,10 +46,11 @@ impl Question {
     }
 
     // The answer, from the words after the command.
-    pub(crate) fn answer(self, help: Help, words: Words<'_>) -> Result<Answer, Refusal>
+    pub(crate) fn answer(self, help: Help, words: Words<'_>) -> Result<Answer<'static>, Refusal>
         ensures { IfOk result (λ a. needs_no_method a ≡ true) }
     {
-        let values = Values::read(&self.form(), words)?;
+        let mut values = Values::nothing(words.heap);
+        values.take_all(&self.form(), words)?;
         Ok(match self {
             Question::Sha256 => Answer::Digest(sha256(&values)?),
             Question::Hmac => Answer::Mac(hmac(&values)?),
@@ -71,36 +77,40 @@ fn hmac(values: &Values<'_>) -> Result<[u8; 32], Refusal> {
     Ok(mac.finish())
 }
 
-#[derive(Drop)]
-struct KeyInputs {
-    ck: [u8; 16],
-    ik: [u8; 16],
-    autn: [u8; 16],
-    network: Octets<MOST>,
-    supi: Octets<MOST>,
-    abba: Octets<MOST>,
-}
-
-fn key_inputs(values: &Values<'_>) -> Result<KeyInputs, Refusal> {
-    Ok(KeyInputs {
-        ck: values.array(ValueName::Ck)?,
-        ik: values.array(ValueName::Ik)?,
-        autn: values.array(ValueName::Autn)?,
-        network: bounded(ValueName::Snn, values.text(ValueName::Snn)?)?,
-        supi: bounded(ValueName::Supi, values.text(ValueName::Supi)?)?,
-        abba: bounded(ValueName::Abba, values.bytes(ValueName::Abba)?.as_slice())?,
-    })
-}
-
-fn derive(values: &Values<'_>) -> Result<LogOnKeys, Refusal> {
-    let inputs = key_inputs(values)?;
-    let prime = PrimeKeys::derive(&inputs.ck, &inputs.ik, &inputs.network, &inputs.autn);
-    let aka = AkaKeys::derive(&prime, inputs.supi.as_slice());
-    let chain = KeyChain::from_kausf(
-        &kausf(&aka.emsk),
-        &inputs.network,
-        &inputs.supi,
-        &inputs.abba,
-    );
+// The keys of a log-on whose parameters have at most N bytes each. Not inlined: its arrays would stand in the frame of every line.
+#[inline(never)]
+fn derive_within<const N: usize>(values: &Values<'_>) -> Result<LogOnKeys, Refusal>
+    requires { N ≤ 65535 }
+{
+    let ck = values.array(ValueName::Ck)?;
+    let ik = values.array(ValueName::Ik)?;
+    let autn = values.array(ValueName::Autn)?;
+    let snn = values.text(ValueName::Snn)?;
+    let network = Octets::<N>::new(snn);
+    let network = network
+        .as_ref()
+        .ok_or(too_long(ValueName::Snn, snn.len(), N))?;
+    let identity = values.text(ValueName::Supi)?;
+    let supi = Octets::<N>::new(identity);
+    let supi = supi
+        .as_ref()
+        .ok_or(too_long(ValueName::Supi, identity.len(), N))?;
+    let bytes = values.bytes(ValueName::Abba)?;
+    let abba = Octets::<N>::new(bytes.as_slice());
+    let abba = abba
+        .as_ref()
+        .ok_or(too_long(ValueName::Abba, bytes.len(), N))?;
+    let prime = PrimeKeys::derive(&ck, &ik, network, &autn);
+    let aka = AkaKeys::derive(&prime, identity);
+    let chain = KeyChain::from_kausf(&kausf(&aka.emsk), network, supi, abba);
     Ok(LogOnKeys { prime, aka, chain })
+}
+
+// The parameters of a log-on are short; only where one is not the arrays have room for the longest.
+fn derive(values: &Values<'_>) -> Result<LogOnKeys, Refusal> {
+    if values.are_within(SHORT, PARAMETERS) {
+        derive_within::<SHORT>(values)
+    } else {
+        derive_within::<LONGEST>(values)
+    }
 }

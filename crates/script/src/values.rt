@@ -7,8 +7,6 @@ use crate::refusal::{Quoted, Refusal, ValueFault};
 use crate::words::Words;
 use keys::Octets;
 use std::alloc::Global;
-use std::collections::BTreeMap;
-use std::collections::btree_map::Entry;
 
 // What a command takes: fields by name, and a plain word, if it takes one, by the name that answers call it.
 #[derive(Clone, Copy)]
@@ -18,11 +16,12 @@ pub(crate) struct Form {
     pub(crate) plain: Option<ValueName>,
 }
 
-// What the words of a line write: the values of fields, and the plain word under the name that answers call it.
+// What the words of a line write: the values of fields, and the plain word under the name that answers call it. A place for each
+// name, and no map on the heap: a line that needs no memory cannot run out of it.
 #[derive(Drop)]
 pub(crate) struct Values<'a> {
     heap: Global,
-    written: BTreeMap<ValueName, &'a [u8]>,
+    written: [Option<&'a [u8]>; 20],
 }
 
 // The name and the value of a field; a plain word has none.
@@ -61,52 +60,69 @@ impl Form {
 }
 
 impl<'a> Values<'a> {
+    pub(crate) fn nothing(heap: Global) -> Values<'a> {
+        Values {
+            heap,
+            written: [None; 20],
+        }
+    }
+
     // The values of the words, each at most once and each one that the command takes.
     pub(crate) fn read(form: &Form, words: Words<'a>) -> Result<Values<'a>, Refusal> {
-        let mut values = Values {
-            heap: words.heap,
-            written: BTreeMap::new(words.heap),
-        };
-        for word in words {
-            values.take(form, word)?;
-        }
+        let mut values = Values::nothing(words.heap);
+        values.take_all(form, words)?;
         Ok(values)
+    }
+
+    pub(crate) fn take_all(&mut self, form: &Form, words: Words<'a>) -> Result<(), Refusal> {
+        for word in words {
+            self.take(form, word)?;
+        }
+        Ok(())
     }
 
     // Takes a word, if it gives a value that the command takes and that was not given before.
     fn take(&mut self, form: &Form, word: &'a [u8]) -> Result<(), Refusal> {
         match name_and_value(word) {
             Some((name, value)) => {
-                let known = form.field(name).ok_or(Refusal::UnknownField {
-                    command: form.command,
-                    name: Quoted::of(name),
-                })?;
-                self.put(known, value, ValueFault::Twice.of(known))
+                let Some(known) = form.field(name) else {
+                    return Err(Refusal::UnknownField {
+                        command: form.command,
+                        name: Quoted::of(name),
+                    });
+                };
+                match self.put(known, value) {
+                    None => Ok(()),
+                    Some(_) => Err(ValueFault::Twice.of(known)),
+                }
             }
             None => {
-                let unexpected = Refusal::UnexpectedWord(Quoted::of(word));
-                let known = form.plain.ok_or(unexpected)?;
-                self.put(known, word, unexpected)
+                let Some(known) = form.plain else {
+                    return Err(Refusal::UnexpectedWord(Quoted::of(word)));
+                };
+                match self.put(known, word) {
+                    None => Ok(()),
+                    Some(_) => Err(Refusal::UnexpectedWord(Quoted::of(word))),
+                }
             }
         }
     }
 
-    // Keeps the value of this name, if it is the first.
-    fn put(&mut self, name: ValueName, value: &'a [u8], twice: Refusal) -> Result<(), Refusal> {
-        match self.written.entry(name)? {
-            Entry::Occupied(_) => Err(twice),
-            Entry::Vacant(entry) => {
-                entry.insert(value);
-                Ok(())
-            }
-        }
+    // Keeps the value of this name, and gives the one that it had before.
+    fn put(&mut self, name: ValueName, value: &'a [u8]) -> Option<&'a [u8]> {
+        self.written[name as usize].replace(value)
+    }
+
+    // Whether none of these is written with more than so many characters; what is missing is none.
+    pub(crate) fn are_within(&self, most: usize, names: &[ValueName]) -> bool {
+        names
+            .iter()
+            .filter_map(|name| self.written[*name as usize])
+            .all(|value| value.len() <= most)
     }
 
     pub(crate) fn text(&self, name: ValueName) -> Result<&'a [u8], Refusal> {
-        self.written
-            .get(&name)
-            .copied()
-            .ok_or(ValueFault::Missing.of(name))
+        self.written[name as usize].ok_or(ValueFault::Missing.of(name))
     }
 
     pub(crate) fn bytes(&self, name: ValueName) -> Result<Vec<u8>, Refusal> {
@@ -149,7 +165,10 @@ impl<'a> Values<'a> {
 
     // Refuses the first of these fields that is there: none goes with the word that was chosen.
     pub(crate) fn without<C: Chosen>(&self, names: &[ValueName], chosen: C) -> Result<(), Refusal> {
-        match names.iter().find(|name| self.written.contains_key(*name)) {
+        match names
+            .iter()
+            .find(|name| self.written[**name as usize].is_some())
+        {
             Some(name) => Err(ValueFault::NotWith(chosen.choice()).of(*name)),
             None => Ok(()),
         }

@@ -1,4 +1,5 @@
 use Rattle.std.proofs.Common.{length, get_or, ap, ◌∙◌, rules}
+use Rattle.keys.specs.Octets.{octets}
 use Rattle.nas.specs.Replies.{response_packet}
 use Rattle.method.specs.Method.{replied}
 use Rattle.aka.specs.Aka.{Judged}
@@ -7,7 +8,7 @@ use Rattle.aka.proofs.aka_prime.AkaPrimeMethod.process.Goals as goal
 
 pub returns : goal.returns
 returns g c =
-    let suci = c.args.suci.now in
+    let suci = octets c.args.suci.now in
     let i = get_or c.args.packet.now 1 0 in
     let said = ap (λ (j : Judged _). j.decision.answer) c.settle-decision.ensures.judged in
     let to_it = ap (λ i. response_packet i aka_type (body_of i suci (answer c.settle-decision.result.reply))) c.identifier_of-identifier.ensures in
